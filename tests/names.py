@@ -20,7 +20,7 @@ from pathlib import Path
 
 ROOT = Path(__file__).resolve().parent.parent
 COMMENTS = {".rt": "//.*", ".antt": "--.*", ".sh": "#.*", ".py": "#.*", ".mjs": "//.*"}
-COMMANDS = {"rt", "rattle-kit-13f", "git", "sh", "python3", "install", "valgrind", "grep", "head", "cat", "wc", "cd"}
+COMMANDS = {"rt", "rattle-kit-13b", "rattle-kit-13f", "git", "sh", "python3", "install", "valgrind", "grep", "head", "cat", "wc", "cd"}
 # Scripts that a run or a reader writes, a slot of a plan, a suffix, and a call of the kit.
 EXCEPTIONS = "found/end1.mcs end1.mcs stuck1.mcs question14.mcs answer-t3-2-1.mcs files.mcs anna.space/session .antt Mutex::lock"
 

@@ -2,8 +2,9 @@
 """Explores random scripts of users by default and with --exact, and compares the reports.
 
     python3 tests/random-orders.py MCSLAB [COUNT [SEED]]   so many scripts (2,000), from a seed (1)
-    python3 tests/random-orders.py --data [COUNT [SEED]]   prints so many scripts (50), from a seed
-                                                           (2), as data of mcs_test_examples
+    python3 tests/random-orders.py --programs MCSLAB [COUNT [SEED]]   the same; users are programs
+    python3 tests/random-orders.py [--programs] --data [COUNT [SEED]]   prints so many scripts (50),
+                                             from a seed (2), as data of mcs_test_examples
 
 Of each script the kinds of ends, the answers of all entries with their steps, the users that are
 stuck and the verdicts have to be the same, and both searches whole. The scripts use each of the 27
@@ -71,6 +72,9 @@ def entries(r):
 MAKES = [f"make {kind} {place} 64" for kind in ("endpoint", "notification", "reply", "context") for place in (20, 21)]
 
 
+KINDS = {"make"} | {entry.split()[0] for entry in entries(random.Random(0))}
+
+
 def users_of(r):
     """Random entries of three users, and questions."""
     lines, users = [], []
@@ -82,6 +86,61 @@ def users_of(r):
         lines.append(f"user t{thread} {entry}")
     asked = [f"#! answer? t{t} 1 done" for t in (1, 2, 3)]
     asked += ["#! never = refused *", "#! some t3 1 got **", "#! never + void **", "#! before t1 1 t2 1"]
+    asked += ["#! never t1 in 0..1 and t2 in 0..=1"]
+    return "\n".join(lines + asked) + "\n"
+
+
+VALUES = ["$badge", "$label", "$1", "0", "1", "3"]
+SENDS = {"send": 2, "nbsend": 2, "call": 2, "replyrecv": 3, "nbsendwait": 3, "nbsendrecv": 4}
+
+
+def condition(r, names):
+    """One or two tests of what the last entry was told, and of kept words."""
+    values = VALUES + ["$" + name for name in names]
+    tests = ["got", "heard", "empty", "done", "refused", "not refused", "not done", "refused 1",
+             f"{r.choice(values)} {r.choice(['==', '!=', '<', '>=', 'has'])} {r.choice(values)}",
+             f"{r.choice(values)} has bit {r.randrange(3)}"]
+    return " and ".join(r.sample(tests, r.choice([1, 1, 2])))
+
+
+def given(r, names):
+    """An entry, in whose message a value may stand for the label, and for a word behind it."""
+    words = r.choice(entries(r)).split()
+    label = SENDS.get(words[0])
+    if label and r.random() < 0.5:
+        words[label] = r.choice(["$label", "$badge", "$1"] + ["$" + name for name in names])
+    if label and r.random() < 0.3:
+        words.append(r.choice(["5", "17"] + ["$" + name for name in names]))
+    return " ".join(words)
+
+
+def block(r, names, depth, count):
+    """Statements with so many entries at most; no loop without an end."""
+    lines = []
+    for _ in range(count):
+        way = r.random()
+        if depth and way < 0.25:
+            lines += [f"if {condition(r, names)} {{", *block(r, names, depth - 1, 1), "} else {",
+                      *block(r, names, depth - 1, 1), "}"]
+        elif depth and way < 0.4:
+            lines += ["repeat 2 {", *block(r, names, 0, 1), "}"]
+        elif way < 0.5 and not names:
+            names = ["kept"]
+            lines += [f"let kept = {r.choice(VALUES)}", given(r, names)]
+        elif way < 0.6 and names:
+            lines += [f"kept {r.choice(['=', '+=', '-='])} {r.randrange(3)}", given(r, names)]
+        else:
+            lines.append(given(r, names))
+    return lines
+
+
+def programs_of(r):
+    """Random programs of three users, and questions."""
+    lines = []
+    for thread in (1, 2, 3):
+        lines += [f"#! t{thread}: {line}" for line in block(r, [], 1, r.randrange(1, 4))]
+    asked = [f"#! answer? t{t} 1 done" for t in (1, 2, 3)]
+    asked += ["#! never = refused *", "#! some t3 1 got **", "#! never + void **"]
     asked += ["#! never t1 in 0..1 and t2 in 0..=1"]
     return "\n".join(lines + asked) + "\n"
 
@@ -100,24 +159,27 @@ def told(program, script, *options):
             "verdict": report["verdict"]}
 
 
-def print_data(words):
+def print_data(made, words):
     """Prints the boot, and behind it the users of each script, behind a line `%`."""
     count = int(words[0]) if words else 50
     r = random.Random(int(words[1]) if len(words) > 1 else 2)
-    print(BOOT + "".join("%\n" + users_of(r) for _ in range(count)), end="")
+    print(BOOT + "".join("%\n" + made(r) for _ in range(count)), end="")
 
 
 def main():
-    if sys.argv[1:2] == ["--data"]:
-        return print_data(sys.argv[2:])
-    program = sys.argv[1]
-    count = int(sys.argv[2]) if len(sys.argv) > 2 else 2000
-    r = random.Random(int(sys.argv[3]) if len(sys.argv) > 3 else 1)
+    made = programs_of if "--programs" in sys.argv else users_of
+    words = [word for word in sys.argv[1:] if word != "--programs"]
+    if words[0] == "--data":
+        return print_data(made, words[1:])
+    program = words[0]
+    count = int(words[1]) if len(words) > 1 else 2000
+    r = random.Random(int(words[2]) if len(words) > 2 else 1)
     used = set()
     for number in range(1, count + 1):
-        script = BOOT + users_of(r)
-        used |= {line.split()[2] if "make" not in line else " ".join(line.split()[2:4])
-                 for line in script.splitlines() if line.startswith("user")}
+        script = BOOT + made(r)
+        entry = [line.split()[2:] for line in script.splitlines() if line[:4] in ("user", "#! t")]
+        used |= {" ".join(words[:2]) if words[0] == "make" else words[0]
+                 for words in entry if words[0] in KINDS}
         default, exact = told(program, script), told(program, script, "--exact")
         if default != exact or not default["whole"]:
             sys.exit(f"script {number} differs:\n{script}\ndefault {default}\nexact   {exact}")

@@ -32,7 +32,7 @@ EXCEPTIONS = {
 }
 
 # After these a span has the words of another program; of them only paths are looked for.
-COMMANDS = {"rt", "rattle-kit-13f", "git", "sh", "python3", "install", "valgrind", "grep", "head", "cat", "wc", "cd"}
+COMMANDS = {"rt", "rattle-kit-13b", "rattle-kit-13f", "git", "sh", "python3", "install", "valgrind", "grep", "head", "cat", "wc", "cd"}
 
 
 def files():

@@ -1,21 +1,23 @@
 -- Turns respect the likeness of runs.
-use Rattle.std.specs.Prelude.{ℕ, suc, ◌≡◌, ◌≤◌, ◌<◌, ◌⊎◌, Bool, true, false, length, List, ◌∷◌, Option, Some, None, slice_get}
+use Rattle.std.specs.Prelude.{ℕ, suc, ◌≡◌, ◌≤◌, ◌<◌, ◌⊎◌, Bool, true, false, length, List, Option, Some, None, slice_get}
 use Rattle.std.proofs.Common.{refl, ap, sym, ◌∙◌, subst, inl, inr}
 use Rattle.mcs_types.specs.declared.id.ObjId.{ObjId}
 use Rattle.mcs_types.specs.declared.id.CoreId.{CoreId}
 use Rattle.mcs_types.specs.declared.entry.Answer.{Answer}
+use Rattle.mcs_types.specs.declared.entry.Entry.{Entry}
 use Rattle.mcs_types.specs.declared.entry.Step.{Step}
 use Rattle.mcs_book.specs.Boots.{Boot, IsFaultless}
 use Rattle.mcs_book.specs.History.{IsLegal, log_of, line_for}
-use Rattle.mcs_book.specs.Logs.{Log}
 use Rattle.mcs_book.specs.Picking.{GoesBefore}
 use Rattle.mcs_book.specs.Statuses.{may_enter}
 use Rattle.mcs_book.specs.Threads.{prio_of}
 use Rattle.mcs_state.proofs.Picking.{entrant-there}
 use Rattle.mcs_turns.specs.declared.position.Position.{Position}
 use Rattle.mcs_turns.specs.declared.position.Pick.{Pick}
+use Rattle.mcs_turns.specs.declared.reached.Reached.{Reached}
 use Rattle.mcs_turns.specs.Due.{choices, due_by}
-use Rattle.mcs_turns.specs.Turns.{User, Going, CanGive, IsBest, IsPickOf, ArePicks, IsStale, IsTurn, Follows, IsOver, AreInRange, outcome, behind, entered, put_at}
+use Rattle.mcs_turns.specs.Turns.{User, Going, CanGive, IsBest, IsPickOf, ArePicks, IsStale, IsTurn, Follows, IsOver, AreInRange, all_told, current, outcome, behind, entered, given, put_at, saved_at}
+use Rattle.mcs_turns.specs.Mail.{reached_from}
 use Rattle.mcs_turns.proofs.Choices.{IsOneOf, choice-in, choice-out, stale-same}
 use Rattle.mcs_turns.proofs.RunLaws.{run-legal, run-long}
 use Rattle.mcs_explore_equivalence.specs.ButNumbers.{AlikeButNumbers, SameButNumbers}
@@ -27,6 +29,7 @@ use Rattle.mcs_explore_equivalence.proofs.Picking.{may_enter-same}
 use Rattle.mcs_explore_equivalence.proofs.Books.{line-outcomes}
 use Rattle.mcs_explore_equivalence.proofs.Exactly.{but-numbers}
 use Rattle.mcs_explore_equivalence.proofs.Likenesses.{by-likeness}
+use Rattle.mcs_explore_equivalence.proofs.Mail.{mail-same}
 use Rattle.mcs_explore_search.specs.Closure.{IsLikeness}
 use Rattle.mcs_explore_equivalence.specs.Runs.{IsReached, AreClose, AreAlike, AreSameTurns, IsSameTurn, SameNewest}
 
@@ -38,7 +41,7 @@ module _ (numbered : Bool) (users : List User) (boot : Boot) (g h : Going) (a : 
   can-there core i u p c = record {
     user = c.user;
     place = subst (λ ps. slice_get ps i ≡ Some p) a.places c.place;
-    left = subst (λ s. due_by s p < length u.entries) (status-same (log_of g.book) (log_of h.book) logs u.thread) c.left;
+    left = subst (λ s. due_by s (current u p) < length u.entries) (status-same (log_of g.book) (log_of h.book) logs u.thread) c.left;
     enters = sym (may_enter-same (log_of g.book) (log_of h.book) logs core u.thread) ∙ c.enters;
   }
 
@@ -46,7 +49,7 @@ module _ (numbered : Bool) (users : List User) (boot : Boot) (g h : Going) (a : 
   can-back core i u p c = record {
     user = c.user;
     place = subst (λ ps. slice_get ps i ≡ Some p) (sym a.places) c.place;
-    left = subst (λ s. due_by s p < length u.entries) (sym (status-same (log_of g.book) (log_of h.book) logs u.thread)) c.left;
+    left = subst (λ s. due_by s (current u p) < length u.entries) (sym (status-same (log_of g.book) (log_of h.book) logs u.thread)) c.left;
     enters = may_enter-same (log_of g.book) (log_of h.book) logs core u.thread ∙ c.enters;
   }
 
@@ -64,7 +67,7 @@ module _ (numbered : Bool) (users : List User) (boot : Boot) (g h : Going) (a : 
     user = b.user;
     place = b.place;
     can = can-there core k.user b.user b.place b.can;
-    number = b.number ∙ ap (λ s. due_by s b.place) (status-same (log_of g.book) (log_of h.book) logs b.user.thread);
+    number = b.number ∙ ap (λ s. due_by s (current b.user b.place)) (status-same (log_of g.book) (log_of h.book) logs b.user.thread);
     best = λ i v q c.
         let d : CanGive users g core i v q = can-back core i v q c in
         before-there core b.user.thread v.thread b.can.enters d.enters (b.best i v q d);
@@ -85,7 +88,7 @@ module _ (numbered : Bool) (users : List User) (boot : Boot) (g h : Going) (a : 
 
 module _ (numbered : Bool) (users : List User) (boot : Boot) (g h : Going) (a : AreAlike numbered users boot g h) (core : CoreId) (k : Pick) (t : Going) (turn : IsTurn users core k g t) where
   -- the same turn in the other run
-  pub turn-there : IsTurn users core k h (entered turn.picks turn.user (record { core = core; thread = turn.user.thread; entry = turn.entry }) k h)
+  pub turn-there : IsTurn users core k h (entered users turn.picks turn.user (record { core = core; thread = turn.user.thread; entry = given g turn.user k turn.entry }) k h)
   turn-there = record {
     user = turn.user;
     entry = turn.entry;
@@ -95,7 +98,7 @@ module _ (numbered : Bool) (users : List User) (boot : Boot) (g h : Going) (a : 
     are_picks = picks-there numbered users boot g h c turn.picks turn.are_picks;
     picked = go turn.picked;
     enters = sym (may_enter-same (log_of g.book) (log_of h.book) ((by-likeness numbered).numbers (log_of g.book) (log_of h.book) c.logs) core turn.user.thread) ∙ turn.enters;
-    after = refl;
+    after = ap (λ (e : Entry). entered users turn.picks turn.user (record { core = core; thread = turn.user.thread; entry = e }) k h) (ap (λ (ps : List Position). given (record g { places = ps }) turn.user k turn.entry) c.places);
   }
     where
       c : AreClose numbered users boot g h
@@ -115,10 +118,10 @@ module _ (numbered : Bool) (users : List User) (boot : Boot) (whole : IsFaultles
 
   module _ (g h : Going) (a : AreAlike numbered users boot g h) (core : CoreId) (k : Pick) (t : Going) (turn : IsTurn users core k g t) where
     abbrev step : Step
-    step = record { core = core; thread = turn.user.thread; entry = turn.entry }
+    step = record { core = core; thread = turn.user.thread; entry = given g turn.user k turn.entry }
 
     abbrev pub then_h : Going
-    then_h = entered turn.picks turn.user step k h
+    then_h = entered users turn.picks turn.user step k h
 
     c : AreClose numbered users boot g h
     c = a.close
@@ -126,7 +129,7 @@ module _ (numbered : Bool) (users : List User) (boot : Boot) (whole : IsFaultles
     pub other : IsTurn users core k h then_h
     other = turn-there numbered users boot g h a core k t turn
 
-    pub left : IsReached users boot (entered turn.picks turn.user step k g)
+    pub left : IsReached users boot (entered users turn.picks turn.user step k g)
     left = subst (λ x. IsReached users boot x) turn.after (record { turns = suc c.left.turns; run = (g, (c.left.run, record { core = core; pick = k; turn = turn })) })
 
     pub right : IsReached users boot then_h
@@ -135,16 +138,26 @@ module _ (numbered : Bool) (users : List User) (boot : Boot) (whole : IsFaultles
     pub same : SameButNumbers (outcome g.book step) (outcome h.book step)
     same = line-outcomes g.book h.book (line_for step (outcome g.book step)) (legal _ left) (legal h c.right) ((by-likeness numbered).numbers (log_of g.book) (log_of h.book) c.logs)
 
-    logs_after : AlikeBy numbered (log_of (entered turn.picks turn.user step k g).book) (log_of then_h.book)
+    logs_after : AlikeBy numbered (log_of (entered users turn.picks turn.user step k g).book) (log_of then_h.book)
     logs_after = (by-likeness numbered).steps g.book h.book (line_for step (outcome g.book step)) (legal _ left) (legal h c.right) c.logs
 
-    after : AreAlike numbered users boot (entered turn.picks turn.user step k g) then_h
+    -- where the users are after the turn, by where they were, its answer and what it brought
+    abbrev places_by : List Position → Answer → List Reached → List Position
+    places_by ps x rs = all_told rs k.user 0 users (put_at k.user (behind turn.user k.number (saved_at (record g { places = ps }) k.user) x) ps)
+
+    pub places_after : (entered users turn.picks turn.user step k g).places ≡ then_h.places
+    places_after =
+        ap (λ ps. places_by ps (outcome g.book step).answer (reached_from None (outcome g.book step).records)) c.places
+        ∙ ap (λ (x : Answer). places_by h.places x (reached_from None (outcome g.book step).records)) same.answer
+        ∙ ap (λ (rs : List Reached). places_by h.places (outcome h.book step).answer rs) (mail-same None (outcome g.book step).records (outcome h.book step).records same.records)
+
+    after : AreAlike numbered users boot (entered users turn.picks turn.user step k g) then_h
     after = record {
       close = record {
         left = left;
         right = right;
         logs = logs_after;
-        places = ap (λ ps. put_at k.user (behind turn.user k.number (outcome g.book step).answer) ps) c.places ∙ ap (λ (x : Answer). put_at k.user (behind turn.user k.number x) h.places) same.answer;
+        places = places_after;
       };
       choices = λ picks are. ap (λ ss. choices picks ss) (stale-same core.0 k.user turn.picks g.stale h.stale (a.choices turn.picks turn.are_picks));
     }

@@ -1,3 +1,4 @@
+pub mod Mail
 mod Settled
 mod Adding
 pub mod Asking

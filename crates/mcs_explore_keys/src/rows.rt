@@ -21,7 +21,14 @@ fn more(number: Option<usize>) -> u64 {
 fn put_place(row: &mut Row, place: Option<Position>) -> Result<(), AllocError> {
     match place {
         Some(place) => {
-            row.extend_from_slice(&[place.next as u64, more(place.waited)])?;
+            row.extend_from_slice(&[
+                place.next as u64,
+                more(place.waited),
+                place.saved.a,
+                place.saved.b,
+                place.saved.c,
+                place.saved.d,
+            ])?;
         }
         None => {}
     }

@@ -1,72 +1,9 @@
 //! Why a question is refused.
+use mcs_explore_programs::{FaultyLine, Listed, ProgramFault, Word};
 use mcs_lab_check::LabFault;
-use std::alloc::{AllocError, AllocFailed, Global};
+use std::alloc::{AllocError, AllocFailed};
 use std::{fmt, io};
 use thiserror::Error;
-
-/// A word of a line. It is shown with each byte escaped that is not printable.
-#[derive(Debug, Drop)]
-pub struct Word {
-    bytes: Vec<u8>,
-}
-
-impl Word {
-    /// A copy of these bytes.
-    pub fn new(alloc: Global, bytes: &[u8]) -> Result<Word, AllocError> {
-        Ok(Word {
-            bytes: Vec::from_slice(alloc, bytes)?,
-        })
-    }
-}
-
-impl fmt::Display for Word {
-    fn fmt<W: fmt::Write>(&self, f: &mut fmt::Formatter<W>) -> fmt::Result {
-        write!(f, "\"{}\"", self.bytes.as_slice().escape_ascii())
-    }
-}
-
-/// How many of what there is are listed at most.
-const TOLD: usize = 8;
-
-/// What there is, as it is listed: eight of them at most.
-#[derive(Debug, Drop)]
-pub struct Listed {
-    bytes: Vec<u8>,
-    count: usize,
-}
-
-impl Listed {
-    /// Nothing.
-    pub fn new(alloc: Global) -> Listed {
-        Listed {
-            bytes: Vec::new(alloc),
-            count: 0,
-        }
-    }
-
-    /// Adds one, or two dots in place of all after the eighth.
-    pub fn add(&mut self, what: &[u8]) -> Result<(), AllocError> {
-        let count = self.count;
-        self.count = count.saturating_add(1);
-        if count > TOLD {
-            return Ok(());
-        }
-        if count > 0 {
-            self.bytes.extend_from_slice(b", ")?;
-        }
-        self.bytes
-            .extend_from_slice(if count == TOLD { b".." } else { what })
-    }
-}
-
-impl fmt::Display for Listed {
-    fn fmt<W: fmt::Write>(&self, f: &mut fmt::Formatter<W>) -> fmt::Result {
-        if self.count == 0 {
-            return f.write_str("none");
-        }
-        write!(f, "{}", self.bytes.as_slice().escape_ascii())
-    }
-}
 
 /// Why a question is refused. The report names the word, and what there is.
 #[derive(Debug, Drop, Error)]
@@ -162,6 +99,16 @@ pub enum QuestionFault {
         number: usize,
         instead: &'static str,
     },
+    #[error("{thread} has a program, and goes on by it alone")]
+    AgainProgram {
+        thread: String,
+    },
+    #[error("a program may pass by entry {number} of {thread}, or come to it again: ask {instead}")]
+    OfProgram {
+        thread: String,
+        number: usize,
+        instead: &'static str,
+    },
     #[error("out of memory")]
     OutOfMemory,
 }
@@ -185,6 +132,8 @@ pub enum ExploreFault {
     Lab(LabFault),
     /// A question of the script is refused; lines count from 1.
     Question { line: u64, why: QuestionFault },
+    /// A line of a program is refused.
+    Program { line: u64, why: ProgramFault },
 }
 
 impl ExploreFault {
@@ -196,11 +145,20 @@ impl ExploreFault {
         }
     }
 
+    /// The fault of a program in a line.
+    pub fn of_program(fault: FaultyLine) -> ExploreFault {
+        let FaultyLine { line, why } = fault;
+        match why {
+            ProgramFault::OutOfMemory => ExploreFault::Lab(LabFault::OutOfMemory),
+            why => ExploreFault::Program { line, why },
+        }
+    }
+
     /// The exit status of the program, 2 to 6 (own).
     pub fn status(&self) -> u8 {
         match self {
             ExploreFault::Lab(fault) => fault.status(),
-            ExploreFault::Question { .. } => 2,
+            ExploreFault::Question { .. } | ExploreFault::Program { .. } => 2,
         }
     }
 }
@@ -235,6 +193,9 @@ impl fmt::Display for ExploreFault {
             ExploreFault::Lab(fault) => write!(f, "{fault}"),
             ExploreFault::Question { line, why } => {
                 write!(f, "mcslab: line {line}: question: {why}")
+            }
+            ExploreFault::Program { line, why } => {
+                write!(f, "mcslab: line {line}: program: {why}")
             }
         }
     }

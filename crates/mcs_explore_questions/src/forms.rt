@@ -1,7 +1,8 @@
 //! Whether a pattern can stand for the line of an answer or a record, by the forms of these lines.
 //! It is kept with ids in place of names.
-use crate::fault::{Listed, QuestionFault, Word};
+use crate::fault::QuestionFault;
 use crate::there::{There, id_text};
+use mcs_explore_programs::{Listed, Word};
 use mcs_lab_forms::{FORMS, Field, Fields, Forms, form_of, number_of};
 use mcs_types::{Kind, LABEL_BITS, MESSAGE_WORDS, ObjId};
 use std::alloc::Global;

@@ -20,4 +20,4 @@ pub use asking::{Asked, Entries, Event, Span, Until};
 pub use fault::{ExploreFault, QuestionFault};
 pub use patterns::is_match;
 pub use reading::{asked_of, comes_once, goes_on_once, question_of};
-pub use there::There;
+pub use there::{There, id_text};

@@ -1,12 +1,13 @@
 //! Reads the questions of a script.
 use crate::asking::{Asked, Entries, Event, Span, Until};
-use crate::fault::{QuestionFault, Word};
+use crate::fault::QuestionFault;
 use crate::forms::{Lines, pattern_of};
 use crate::there::{There, entry_of, id_text, no_entry};
-use mcs_explore_walk::{UserList, Users};
+use mcs_explore_programs::Word;
 use mcs_lab_forms::number_of;
 use mcs_text::Words;
 use mcs_types::ObjId;
+use mcs_users::{UserList, Users};
 use std::alloc::Global;
 
 /// The words with which questions begin.
@@ -353,7 +354,58 @@ pub fn asked_of(alloc: Global, there: There<'_>, text: &[u8]) -> Result<Asked, Q
         taken: 0,
     };
     let first = reader.need("a question")?;
-    reader.asked(first)
+    let asked = reader.asked(first)?;
+    fits_programs(alloc, there.users, &asked)?;
+    Ok(asked)
+}
+
+/// Whether the user of a thread has a program.
+fn has_program(users: &Users, thread: ObjId) -> bool {
+    match users.find(thread) {
+        Some(place) => users.at(place).is_some_and(|list| list.has_program()),
+        None => false,
+    }
+}
+
+/// Fails with OfProgram where an entry is one of a program.
+fn is_of_list(
+    alloc: Global,
+    users: &Users,
+    event: Event,
+    instead: &'static str,
+) -> Result<(), QuestionFault> {
+    if !has_program(users, event.thread) {
+        return Ok(());
+    }
+    Err(QuestionFault::OfProgram {
+        thread: id_text(alloc, event.thread)?,
+        number: event.number,
+        instead,
+    })
+}
+
+/// Fails where a question is about a program, of which a state does not say whether it came to an
+/// entry before: with AgainProgram where it lets that go on again, and else with OfProgram.
+fn fits_programs(alloc: Global, users: &Users, asked: &Asked) -> Result<(), QuestionFault> {
+    match asked {
+        Asked::Again { event } if has_program(users, event.thread) => {
+            Err(QuestionFault::AgainProgram {
+                thread: id_text(alloc, event.thread)?,
+            })
+        }
+        Asked::Before { first, second } => {
+            is_of_list(alloc, users, *first, "never")?;
+            is_of_list(alloc, users, *second, "never")
+        }
+        Asked::Answer { event, .. } => is_of_list(alloc, users, *event, "answer?"),
+        Asked::Idle { .. }
+        | Asked::Live { .. }
+        | Asked::AnswerIf { .. }
+        | Asked::Some { .. }
+        | Asked::Never { .. }
+        | Asked::Apart { .. }
+        | Asked::Again { .. } => Ok(()),
+    }
 }
 
 /// The list of a thread that goes on again, and the number of the entry with which it does, from 0.

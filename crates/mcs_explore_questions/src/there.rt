@@ -1,11 +1,12 @@
 //! What a word of a question may name: threads, their entries, objects and their names.
 use crate::asking::Event;
-use crate::fault::{Listed, QuestionFault, Word};
-use mcs_explore_walk::{UserList, Users};
+use crate::fault::QuestionFault;
+use mcs_explore_programs::{Listed, ProgramFault, Word};
 use mcs_lab_check::{Named, Names, object_of, queue_of};
 use mcs_lab_forms::number_of;
 use mcs_text::letter;
 use mcs_types::{BootLine, Kind, ObjId};
+use mcs_users::{UserList, Users};
 use std::alloc::{AllocError, Global};
 
 /// What there is in a script: its boot, its users, and the names of objects.
@@ -45,13 +46,17 @@ pub fn id_text(alloc: Global, object: ObjId) -> Result<String, AllocError> {
 }
 
 impl<'a> There<'a> {
-    /// The object that a word names, by its id or by a name that the script gives it. Several where
-    /// two have the name.
-    pub fn object(&self, alloc: Global, word: &[u8]) -> Result<Option<ObjId>, QuestionFault> {
-        if let Some(object) = object_of(word) {
-            return Ok(Some(object));
+    /// What a word names: an object, by its id or by a name that the script gives it.
+    fn named(&self, word: &[u8]) -> Named {
+        match object_of(word) {
+            Some(object) => Named::One(object),
+            None => self.names.find(word),
         }
-        match self.names.find(word) {
+    }
+
+    /// The object that a word names. Several where two have the name.
+    pub fn object(&self, alloc: Global, word: &[u8]) -> Result<Option<ObjId>, QuestionFault> {
+        match self.named(word) {
             Named::Nothing => Ok(None),
             Named::One(object) => Ok(Some(object)),
             Named::Several => Err(QuestionFault::Several {
@@ -121,6 +126,26 @@ impl<'a> There<'a> {
             told.add(id_text(alloc, ObjId { kind, serial })?.as_bytes())?;
         }
         Ok(told)
+    }
+
+    /// The thread of the boot that a word names. NoThread where it names none, Several where two
+    /// objects have the name.
+    pub fn thread(&self, alloc: Global, word: &[u8]) -> Result<ObjId, ProgramFault> {
+        match self.named(word) {
+            Named::One(object) if self.is_thread(object) => Ok(object),
+            Named::Several => Err(ProgramFault::Several {
+                word: Word::new(alloc, word)?,
+            }),
+            Named::One(_) | Named::Nothing => Err(ProgramFault::NoThread {
+                word: Word::new(alloc, word)?,
+                there: self.objects(alloc, Kind::Thread)?,
+            }),
+        }
+    }
+
+    /// Whether an object is a thread of the boot.
+    fn is_thread(&self, object: ObjId) -> bool {
+        object.kind.is_same(Kind::Thread) && self.can_be(object)
     }
 
     /// The threads that have entries.

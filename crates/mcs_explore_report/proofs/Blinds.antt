@@ -1,13 +1,11 @@
--- Patterns that name no message stand for lines whatever the numbers of messages; and mail names
--- none.
-use Rattle.std.specs.Prelude.{ℕ, ◌≡◌, ◌-◌, ◌+◌, ◌/◌, ◌%◌, nat_lt, ◌||◌, ◌&&◌, ◌==◌, suc, zero, Bool, true, false, map, List, [], ◌∷◌, ◌++◌, Option, length, take, decimal, bytes_eq, codes, if◌then◌else◌}
+-- Patterns that name no message match lines whatever the numbers of messages.
+use Rattle.std.specs.Prelude.{ℕ, ◌≡◌, ◌-◌, ◌+◌, ◌/◌, ◌%◌, nat_lt, ◌||◌, ◌&&◌, ◌==◌, suc, zero, Bool, true, false, map, List, [], ◌∷◌, ◌++◌, length, take, decimal, bytes_eq, codes, if◌then◌else◌}
 use Rattle.std.specs.List.{list_any, flat_map}
 use Rattle.std.proofs.Common.{refl, ap, sym, ◌∙◌, arith}
 use Rattle.std.proofs.lemmas.List.{append_assoc, append-nil}
 use Rattle.mcs_text.specs.declared.token.Token.TheVariants as tok
 use Rattle.mcs_text.specs.declared.token.Token.{Token}
 use Rattle.mcs_text.specs.declared.key.Key.TheVariants as key
-use Rattle.mcs_types.specs.declared.entry.Answer.{Answer}
 use Rattle.mcs_types.specs.declared.record.Rec.{Rec}
 use Rattle.mcs_types.specs.declared.record.Rec.TheVariants as rec
 use Rattle.mcs_text.specs.Table.{record_text, how_key}
@@ -20,7 +18,6 @@ use Rattle.mcs_explore_equivalence.specs.ButNumbers.{bare}
 use Rattle.mcs_sim.specs.Trace.{sent_with}
 use Rattle.mcs_explore_report.specs.Judging.{NameNone, is_line, record_lines}
 use Rattle.mcs_explore_report.specs.Judging.{bare as bare_line}
-use Rattle.mcs_explore_report.specs.Mail.{got_with, listed, reached_from, reaching}
 
 -- a space parts words
 onto-some : (b : ℕ) (us vs : List (List ℕ)) (w : List ℕ) (ws : List (List ℕ)) → us ≡ w ∷ ws → onto_first b (us ++ vs) ≡ onto_first b us ++ vs
@@ -172,23 +169,3 @@ lines-blind p h (r ∷ rs) (s ∷ ss) m n e =
     let first : bare r ≡ bare s = cc in
     let rest : map bare rs ≡ map bare ss = cc in
     ap (λ b. b || list_any (is_line p) (record_lines (sent_with m r) rs)) (record-blind p h r s m n first) ∙ ap (λ b. is_line p (record_text n s) || b) (lines-blind p h rs ss (sent_with m r) (sent_with n s) rest)
-
--- what reaches threads by a record is what does by the bare one
-got-bare : (got : Option Answer) (r : Rec) → got_with got (bare r) ≡ got_with got r
-got-bare got (rec.Took m t) = refl
-got-bare got (rec.Dropped m) = refl
-got-bare got _ = refl
-
-reaching-bare : (got : Option Answer) (r : Rec) → reaching got (bare r) ≡ reaching got r
-reaching-bare got (rec.Took m t) = refl
-reaching-bare got (rec.Dropped m) = refl
-reaching-bare got _ = refl
-
-reached-bare : (got : Option Answer) (rs : List Rec) → reached_from got (map bare rs) ≡ reached_from got rs
-reached-bare got [] = refl
-reached-bare got (r ∷ rs) =
-    ap (λ g. listed (reaching g (bare r)) ++ reached_from g (map bare rs)) (got-bare got r) ∙ ap (λ o. listed o ++ reached_from (got_with got r) (map bare rs)) (reaching-bare (got_with got r) r)
-    ∙ ap (λ l. listed (reaching (got_with got r) r) ++ l) (reached-bare (got_with got r) rs)
-
-pub mail-same : (got : Option Answer) (rs ss : List Rec) → map bare rs ≡ map bare ss → reached_from got rs ≡ reached_from got ss
-mail-same got rs ss e = sym (reached-bare got rs) ∙ ap (reached_from got) e ∙ reached-bare got ss

@@ -15,7 +15,7 @@ use Rattle.mcs_text.specs.Table.{record_text}
 use Rattle.mcs_sim.specs.Trace.{sent_after, sent_with}
 use Rattle.mcs_lab_check.proofs.Finding.{from-there}
 use Rattle.mcs_explore_report.specs.Judging.{lines_told, record_lines, told_by, told_last}
-use Rattle.mcs_explore_report.proofs.Lists.{at-last, some-same}
+use Rattle.mcs_explore_walk.proofs.LastLine.{newest-is}
 
 -- a record whose line is wanted, and one whose line is not
 pub line-here : (p : List ℕ → Bool) (n i : ℕ) (rs : List Rec) (r : Rec) → slice_get rs i ≡ Some r → p (record_text n r) ≡ true → list_any p (record_lines n (drop i rs)) ≡ true
@@ -52,23 +52,6 @@ sent-from n (r ∷ rs) =
 -- the messages that were sent before a line
 before-line : (l : Line) (R : Log) → next_message (onto l.records R) - sent_after 0 l.records ≡ next_message R
 before-line l R = let a = sent-onto l.records R in let b = sent-from (next_message R) l.records in omega (arith, a, b)
-
--- the newest line is the last
-newest-last : (l : Line) (ls : List Line) → slice_get (reverse (l ∷ ls)) (length ls) ≡ Some l
-newest-last l ls = ap (λ xs. slice_get xs (length ls)) (reverse-cons l ls) ∙ ap (λ n. slice_get (reverse ls ++ l ∷ []) n) (sym (length-reverse ls)) ∙ at-last (reverse ls) l
-
-pub newest-there : (b : Book) (k : Line) (ls : List Line) → b.lines ≡ k ∷ ls → line_of_number b (length b.lines) ≡ Some k
-newest-there b k ls is =
-    let count : length b.lines ≡ length (k ∷ ls) = ap length is in
-    let some : (length b.lines == 0) ≡ false = ne_eqb (length b.lines) 0 (λ z. omega (arith, count, z)) in
-    let here : length b.lines - 1 ≡ length ls = omega (arith, count) in
-    ap (λ (c : Bool). cond c None (slice_get (reverse b.lines) (length b.lines - 1))) some
-    ∙ ap (λ (xs : List Line). slice_get (reverse xs) (length b.lines - 1)) is
-    ∙ ap (λ n. slice_get (reverse (k ∷ ls)) n) here
-    ∙ newest-last k ls
-
-pub newest-is : (b : Book) (l k : Line) (ls : List Line) → b.lines ≡ k ∷ ls → line_of_number b (length b.lines) ≡ Some l → k ≡ l
-newest-is b l k ls is at = some-same k l (sym (newest-there b k ls is) ∙ at)
 
 -- the lines that a trace has of the newest line
 pub told-some : (p : List ℕ → Bool) (b : Book) (l : Line) (n : ℕ) → line_of_number b (length b.lines) ≡ Some l → n ≡ next_message (log_of b) - sent_after 0 l.records → list_any p (lines_told n l) ≡ list_any p (told_last b)

@@ -7,7 +7,7 @@ use Rattle.mcs_turns.specs.Turns.{User, Going}
 use Rattle.mcs_explore_walk.specs.declared.walk.Turn.{Turn}
 use Rattle.mcs_explore_orders.specs.Shown.{Made, Shown, Sight, with_state, with_turn}
 use Rattle.mcs_explore_report.specs.declared.answers.Told.{Told}
-use Rattle.mcs_explore_report.specs.declared.mail.Reached.{Reached}
+use Rattle.mcs_turns.specs.declared.reached.Reached.{Reached}
 use Rattle.mcs_explore_script.specs.declared.questions.AskedLine.{AskedLine}
 use Rattle.mcs_explore_report.specs.declared.judging.Sighting.{Sighting}
 use Rattle.mcs_explore_report.specs.Answers.{AreAnswersOf, AreMailOf, AreNotedMail, IsAmong, IsNoted, IsNotedFor, IsNotedOf, IsNotedTurn, Tables, mailed_to, table_of}
@@ -15,7 +15,7 @@ use Rattle.mcs_explore_report.specs.Ends.{AreEndsOf, IsKindAt, IsNoted as IsEndN
 use Rattle.mcs_explore_report.specs.Firsts.{AreFirstAnswers, AreFirstEnds, AreFirstFailures, HasGiven, IsStateBefore, IsTurnBefore}
 use Rattle.mcs_explore_report.specs.Judged.{AreJudged, AreJudgedBy, judged}
 use Rattle.mcs_explore_report.specs.Judging.{fails}
-use Rattle.mcs_explore_report.specs.Mail.{brought}
+use Rattle.mcs_turns.specs.Mail.{brought}
 use Rattle.mcs_explore_report.specs.Standings.{standings}
 use Rattle.mcs_explore_report.proofs.Lists.{at-last, at-old, at-split, at-within, some-same, within-at}
 use Rattle.mcs_explore_report.proofs.Noting.{counted-back}

@@ -16,13 +16,13 @@ use Rattle.mcs_text.specs.Reading.{words_of}
 use Rattle.mcs_text.specs.Table.{answer_text}
 use Rattle.mcs_turns.specs.declared.position.Position.{Position}
 use Rattle.mcs_turns.specs.declared.position.Pick.{Pick}
-use Rattle.mcs_turns.specs.Turns.{User, Going, AreInRange, IsRun, IsTurn, behind, entered, outcome, put_at}
+use Rattle.mcs_turns.specs.Turns.{User, Going, AreInRange, IsRun, IsTurn, current, entered, given, outcome}
 use Rattle.mcs_explore_equivalence.proofs.Asking.{status-same}
 use Rattle.mcs_explore_equivalence.specs.ButNumbers.{SameButNumbers}
 use Rattle.mcs_explore_equivalence.proofs.Likenesses.{by-likeness}
 use Rattle.mcs_explore_search.specs.Search.{Entries}
 use Rattle.mcs_explore_equivalence.specs.Runs.{AreAlike}
-use Rattle.mcs_explore_equivalence.proofs.Alikes.{other}
+use Rattle.mcs_explore_equivalence.proofs.Alikes.{other, places_after}
 use Rattle.mcs_explore_equivalence.proofs.Outcomes.{same-outcomes, exact-outcomes}
 use Rattle.mcs_explore_walk.specs.declared.walk.Turn.{Turn}
 use Rattle.mcs_explore_orders.specs.Seen.{AreAllSeen}
@@ -41,7 +41,7 @@ use Rattle.mcs_explore_report.specs.Found.{AreHeldInRuns, AreJudgedFound, IsHeld
 -- runs with the same statuses and places have the same users in spans
 module _ (users : List User) (g h : Going) (places : g.places ≡ h.places) (statuses : (t : ObjId) → status_of (log_of g.book) t ≡ status_of (log_of h.book) t) where
   abbrev within_at : Going → Span → Option User → ℕ → Bool
-  within_at x s o i = elim o [ None ↦ false | Some u ↦ elim (slice_get x.places i) [ None ↦ false | Some p ↦ is_within s (status_of (log_of x.book) u.thread) p ] ]
+  within_at x s o i = elim o [ None ↦ false | Some u ↦ elim (slice_get x.places i) [ None ↦ false | Some p ↦ is_within s (status_of (log_of x.book) u.thread) (current u p) ] ]
 
   abbrev is_of : Going → Span → Option ℕ → Bool
   is_of x s o = elim o [ None ↦ false | Some i ↦ within_at x s (slice_get users i) i ]
@@ -51,21 +51,21 @@ module _ (users : List User) (g h : Going) (places : g.places ≡ h.places) (sta
   within-same s (Some u) i = go (slice_get g.places i) (slice_get h.places i) (ap (λ (ps : List Position). slice_get ps i) places)
     where
       by : Option Status → Option Position → Bool
-      by st o = elim o [ None ↦ false | Some p ↦ is_within s st p ]
+      by st o = elim o [ None ↦ false | Some p ↦ is_within s st (current u p) ]
 
       go : (o p : Option Position) → o ≡ p → by (status_of (log_of g.book) u.thread) o ≡ by (status_of (log_of h.book) u.thread) p
       go o p e = ap (by (status_of (log_of g.book) u.thread)) e ∙ ap (λ st. by st p) (statuses u.thread)
 
   -- and as many entries of each user answered
   abbrev answered_at : Going → Option User → ℕ → ℕ
-  answered_at x o i = elim o [ None ↦ 0 | Some u ↦ elim (slice_get x.places i) [ None ↦ 0 | Some p ↦ answered_by (status_of (log_of x.book) u.thread) p ] ]
+  answered_at x o i = elim o [ None ↦ 0 | Some u ↦ elim (slice_get x.places i) [ None ↦ 0 | Some p ↦ answered_by (status_of (log_of x.book) u.thread) (current u p) ] ]
 
   pub answered-same : (o : Option User) (i : ℕ) → answered_at g o i ≡ answered_at h o i
   answered-same None i = refl
   answered-same (Some u) i = go (slice_get g.places i) (slice_get h.places i) (ap (λ (ps : List Position). slice_get ps i) places)
     where
       by : Option Status → Option Position → ℕ
-      by st o = elim o [ None ↦ 0 | Some p ↦ answered_by st p ]
+      by st o = elim o [ None ↦ 0 | Some p ↦ answered_by st (current u p) ]
 
       go : (o p : Option Position) → o ≡ p → by (status_of (log_of g.book) u.thread) o ≡ by (status_of (log_of h.book) u.thread) p
       go o p e = ap (by (status_of (log_of g.book) u.thread)) e ∙ ap (λ st. by st p) (statuses u.thread)
@@ -92,13 +92,13 @@ given-same users g h places e = ap (λ (ps : List Position). has_given users (re
 -- alike runs: the same turn leads from both to what tells the same
 module _ (numbered : Bool) (users : List User) (boot : Boot) (whole : IsFaultless boot) (range : AreInRange users) (g h : Going) (a : AreAlike numbered users boot g h) (core : CoreId) (k : Pick) (t : Going) (turn : IsTurn users core k g t) where
   abbrev pub step : Step
-  step = record { core = core; thread = turn.user.thread; entry = turn.entry }
+  step = record { core = core; thread = turn.user.thread; entry = given g turn.user k turn.entry }
 
   abbrev pub then_g : Going
-  then_g = entered turn.picks turn.user step k g
+  then_g = entered users turn.picks turn.user step k g
 
   abbrev pub then_h : Going
-  then_h = entered turn.picks turn.user step k h
+  then_h = entered users turn.picks turn.user step k h
 
   pub there : IsTurn users core k h then_h
   there = other numbered users boot whole range g h a core k t turn
@@ -107,7 +107,7 @@ module _ (numbered : Bool) (users : List User) (boot : Boot) (whole : IsFaultles
   same = same-outcomes numbered users boot whole range g h a core k t turn
 
   pub places-same : then_g.places ≡ then_h.places
-  places-same = ap (λ ps. put_at k.user (behind turn.user k.number (outcome g.book step).answer) ps) a.close.places ∙ ap (λ (x : Answer). put_at k.user (behind turn.user k.number x) h.places) same.answer
+  places-same = places_after numbered users boot whole range g h a core k t turn
 
   -- a pattern that names no message stands for the lines of both
   blind : (pattern : List ℕ) → NameNone (words_of pattern) → list_any (is_line pattern) (told_last then_g.book) ≡ list_any (is_line pattern) (told_last then_h.book)

@@ -18,13 +18,13 @@ use Rattle.mcs_explore_questions.specs.declared.asking.Asked.{Asked}
 use Rattle.mcs_explore_questions.specs.declared.asking.Asked.TheVariants as asked
 use Rattle.mcs_explore_script.specs.declared.questions.AskedLine.{AskedLine}
 use Rattle.mcs_explore_report.specs.declared.judging.Sighting.{Sighting}
-use Rattle.mcs_explore_report.specs.declared.mail.Reached.{Reached}
+use Rattle.mcs_turns.specs.declared.reached.Reached.{Reached}
 use Rattle.mcs_explore_report.specs.Judging.{fails}
 use Rattle.mcs_explore_report.specs.Judged.{AreJudged, AreJudgedBy, IsJudged, IsShownBy}
 use Rattle.mcs_explore_report.specs.Standings.{standings}
 use Rattle.mcs_explore_report.specs.Ends.{AreEndsOf, IsKindAt, IsNotedIf, Kind}
 use Rattle.mcs_explore_report.specs.Answers.{AreAnswersOf, AreNotedMail, IsAmong, IsAnswerOf, IsNotedTurn, IsOwnAnswer, IsMailed, Tables, no_answers, table_of}
-use Rattle.mcs_explore_report.specs.Mail.{brought}
+use Rattle.mcs_turns.specs.Mail.{brought}
 use Rattle.mcs_explore_report.specs.Firsts.{HasGiven, IsStateBefore, IsTurnBefore}
 use Rattle.mcs_explore_report.specs.Kept.{IsKept}
 use Rattle.mcs_explore_report.specs.Found.{AreAnswersFound, AreCountedFound, AreEndsFound, AreJudgedFound, IsAnswerFound, IsAnswered, IsAt, IsEndFound, IsFailureFound, IsGiven, IsJudgedFound, IsMailFound, IsSeenFrom, AreFirstFound}

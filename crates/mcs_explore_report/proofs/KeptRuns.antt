@@ -11,24 +11,24 @@ use Rattle.mcs_book.specs.History.{log_of}
 use Rattle.mcs_book.specs.Statuses.{status_of}
 use Rattle.mcs_turns.specs.declared.position.Position.{Position}
 use Rattle.mcs_turns.specs.declared.position.Pick.{Pick}
+use Rattle.mcs_turns.specs.declared.reached.Reached.{Reached}
+use Rattle.mcs_turns.specs.Mail.{brought}
 use Rattle.mcs_turns.specs.Turns.{User, Going, AreInRange, IsRun, IsTurn}
 use Rattle.mcs_explore_equivalence.proofs.Asking.{status-same}
 use Rattle.mcs_explore_equivalence.proofs.Likenesses.{by-likeness}
 use Rattle.mcs_explore_search.specs.Search.{Entries}
 use Rattle.mcs_explore_equivalence.specs.Runs.{AreAlike}
 use Rattle.mcs_explore_equivalence.proofs.Alikes.{over-there}
+use Rattle.mcs_explore_equivalence.proofs.Mail.{mail-same}
 use Rattle.mcs_explore_walk.specs.declared.walk.Turn.{Turn}
 use Rattle.mcs_explore_walk.specs.Walks.{last_answer}
 use Rattle.mcs_explore_orders.specs.Seen.{AreAllSeen}
 use Rattle.mcs_explore_orders.specs.Trails.{Leads}
 use Rattle.mcs_explore_report.specs.declared.ends.Standing.{Standing}
-use Rattle.mcs_explore_report.specs.declared.mail.Reached.{Reached}
-use Rattle.mcs_explore_report.specs.Mail.{brought}
 use Rattle.mcs_explore_report.specs.Standings.{listed, standing_by, standing_of, standings, standings_below}
 use Rattle.mcs_explore_report.specs.Ends.{IsKindAt, Kind}
 use Rattle.mcs_explore_report.specs.Answers.{IsMailed, Tables, mailed_to}
 use Rattle.mcs_explore_report.specs.Found.{AreAnswersFound, AreAnswersInRuns, AreEndsFound, AreEndsInRuns, IsKeptOf, IsMailFound}
-use Rattle.mcs_explore_report.proofs.Blinds.{mail-same}
 use Rattle.mcs_explore_report.proofs.HeldRuns.{there, places-same, same, then_g, then_h}
 use Rattle.mcs_explore_report.proofs.Waiting.{mailed-entry}
 

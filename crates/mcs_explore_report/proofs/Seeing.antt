@@ -8,13 +8,13 @@ use Rattle.mcs_explore_walk.specs.declared.walk.Turn.{Turn}
 use Rattle.mcs_explore_orders.specs.Shown.{Shown, nothing, with_state, with_turn}
 use Rattle.mcs_explore_report.specs.declared.judging.Sighting.{Sighting}
 use Rattle.mcs_explore_script.specs.declared.lives.Live.{Live}
-use Rattle.mcs_explore_report.specs.declared.mail.Reached.{Reached}
+use Rattle.mcs_turns.specs.declared.reached.Reached.{Reached}
 use Rattle.mcs_explore_script.specs.declared.questions.AskedLine.{AskedLine}
 use Rattle.mcs_explore_report.specs.Answers.{AreNotedMail, IsNotedTurn, Tables, no_answers}
 use Rattle.mcs_explore_report.specs.Ends.{IsNotedIf, Kind}
 use Rattle.mcs_explore_report.specs.Judged.{AreJudgedBy}
 use Rattle.mcs_explore_report.specs.Kept.{HasKept}
-use Rattle.mcs_explore_report.specs.Mail.{brought}
+use Rattle.mcs_turns.specs.Mail.{brought}
 use Rattle.mcs_explore_report.specs.Standings.{standings}
 use Rattle.mcs_explore_report.specs.Stuck.{AreNotedBy, AreNotedOn, Noted, with_made, with_sight}
 use Rattle.mcs_explore_report.proofs.Keeping.{begun-kept, kept-state, kept-turn}

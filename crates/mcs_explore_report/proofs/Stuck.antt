@@ -25,10 +25,10 @@ use Rattle.mcs_explore_orders.specs.Shown.{AreShown, Made, Shown, Sight, nothing
 use Rattle.mcs_explore_orders.specs.Trails.{Leads}
 use Rattle.mcs_explore_orders.proofs.Paths.{path-one}
 use Rattle.mcs_explore_script.specs.declared.lives.Live.{Live}
-use Rattle.mcs_explore_report.specs.declared.mail.Reached.{Reached}
+use Rattle.mcs_turns.specs.declared.reached.Reached.{Reached}
 use Rattle.mcs_explore_report.specs.Found.{IsAt}
 use Rattle.mcs_explore_report.specs.Stuck.{AreDecided, AreNotedBy, AreNotedOn, AreStuckUnled, IsFirstUnled, IsLive, IsNear, IsNotedBy, IsStuckFirst, Noted, answers, answers_last, first_marks, is_about, is_mailed, is_settled, is_waits, settled_by, with_made, with_mark, with_marks, with_sight}
-use Rattle.mcs_explore_report.specs.Mail.{brought}
+use Rattle.mcs_turns.specs.Mail.{brought}
 use Rattle.mcs_explore_report.proofs.HeldRuns.{answered-same, places-same, same, step, then_g, then_h, there}
 use Rattle.mcs_explore_report.proofs.Keeping.{at-paths, paths-long}
 use Rattle.mcs_explore_report.proofs.KeptRuns.{brought-same}

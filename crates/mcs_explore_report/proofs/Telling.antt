@@ -14,10 +14,9 @@ use Rattle.mcs_explore_orders.specs.Shown.{Made}
 use Rattle.mcs_types.specs.declared.record.Rec.{Rec}
 use Rattle.mcs_lab_check.proofs.Finding.{from-there}
 use Rattle.mcs_explore_report.specs.declared.answers.Told.{Told}
-use Rattle.mcs_explore_report.specs.declared.mail.Reached.{Reached}
-use Rattle.mcs_explore_report.specs.Mail.{brought, got_with, listed, reached_from, reaching}
+use Rattle.mcs_turns.specs.declared.reached.Reached.{Reached}
+use Rattle.mcs_turns.specs.Mail.{brought, got_with, listed, reached_from, reaching}
 use Rattle.mcs_explore_report.specs.Answers.{AreAnswersOf, AreMailOf, AreNotedMail, IsAmong, IsAnswerOf, IsChangedAt, IsEntry, IsMailed, IsNoted, IsNotedFor, IsNotedIn, IsNotedMail, IsNotedOf, IsNotedTurn, Tables, mailed_to, no_answers, table_of}
-use Rattle.mcs_explore_report.proofs.Failing.{newest-is}
 use Rattle.mcs_explore_report.proofs.Lists.{at-last, at-old, at-split, from-on, same-or-not, set-other, set-same, some-same}
 
 -- what was changed in a place
@@ -347,14 +346,3 @@ pub all-noted : (users : List User) (g : Going) (place : ℕ) (t : Turn) (rs : L
     → ((new : Tables) → AreNotedMail users g place t (drop i rs) mid new → AreNotedMail users g place t rs old new) → AreNotedMail users g place t rs old mid
 all-noted users g place t rs i old mid long noted =
     noted mid (subst (λ (xs : List Reached). AreNotedMail users g place t xs mid mid) (sym (drop_all i rs long)) refl)
-
--- the newest line brought what its records did
-pub brought_by : (b : Book) (l : Line) → line_of_number b (length b.lines) ≡ Some l → brought b ≡ reached_from None l.records
-brought_by b l at = go b.lines refl
-  where
-    go : (ls : List Line) → b.lines ≡ ls → brought (record b { lines = b.lines }) ≡ reached_from None l.records
-    go [] none = absurd (nothing none)
-      where
-        nothing : b.lines ≡ [] → ⊥
-        nothing e = let gone = sym at ∙ ap (λ (ls : List Line). line_of_number (record b { lines = ls }) (length ls)) e in absurd cc
-    go (k ∷ ls) is = ap (λ (xs : List Line). brought (record b { lines = xs })) is ∙ ap (λ (x : Line). reached_from None x.records) (newest-is b l k ls is at)

@@ -1,16 +1,22 @@
 -- In runs the number with which a user waits is that of an entry.
-use Rattle.std.specs.Prelude.{ℕ, zero, suc, ◌≡◌, ◌==◌, ◌⊎◌, Bool, true, false, cond, map, List, [], ◌∷◌, Option, Some, None, slice_get}
+use Rattle.std.specs.Prelude.{ℕ, zero, suc, ◌≡◌, ◌+◌, ◌==◌, ◌⊎◌, Bool, true, false, cond, map, List, [], ◌∷◌, Option, Some, None, slice_get}
 use Rattle.std.proofs.Common.{refl, ap, sym, ◌∙◌, subst, inl, inr}
 use Rattle.mcs_types.specs.declared.entry.Answer.{Answer}
 use Rattle.mcs_types.specs.declared.entry.Answer.TheVariants as answer
 use Rattle.mcs_types.specs.declared.entry.Step.{Step}
+use Rattle.mcs_types.specs.Ids.{same}
 use Rattle.mcs_book.specs.Boots.{Boot}
 use Rattle.mcs_turns.specs.declared.position.Position.{Position}
 use Rattle.mcs_turns.specs.declared.position.Pick.{Pick}
 use Rattle.mcs_turns.specs.Due.{begun}
-use Rattle.mcs_turns.specs.Turns.{User, Going, IsRun, IsTurn, behind, outcome, put_at}
+use Rattle.mcs_turns.specs.declared.program.Op.{Op}
+use Rattle.mcs_turns.specs.declared.program.Saved.{Saved}
+use Rattle.mcs_turns.specs.declared.program.Settled.{Settled}
+use Rattle.mcs_turns.specs.Mail.{reached_from}
+use Rattle.mcs_turns.specs.Programs.{goes_on, starts}
+use Rattle.mcs_turns.specs.Turns.{User, Going, IsRun, IsTurn, all_told, behind, comes_of, given, gone_on, listed_behind, outcome, place_told, put_at, saved_at, started, told, told_all, told_if, waiting_behind}
 use Rattle.mcs_explore_walk.specs.declared.walk.Turn.{Turn}
-use Rattle.mcs_explore_report.specs.declared.mail.Reached.{Reached}
+use Rattle.mcs_turns.specs.declared.reached.Reached.{Reached}
 use Rattle.mcs_explore_script.specs.UserLists.{user_of}
 use Rattle.mcs_explore_report.specs.Answers.{IsEntry, IsMailed, comes_to, mailed_to, waiting}
 use Rattle.mcs_explore_report.proofs.Lists.{some-same}
@@ -27,25 +33,94 @@ put-in (suc k) x (z ∷ ys) (suc i) y at = go (put-in k x ys i y at)
     go (inl e) = inl (ap (λ n. suc n) e.0, e.1)
     go (inr h) = inr h
 
-begun-in : (us : List User) (i : ℕ) (p : Position) → slice_get (map (λ (u : User). begun) us) i ≡ Some p → p ≡ begun
-begun-in [] i p at = absurd cc
-begun-in (u ∷ us) zero p at = sym (some-same begun p at)
-begun-in (u ∷ us) (suc i) p at = begun-in us i p at
+-- to go on changes nothing of what waits
+gone-waits : (o : Option Settled) (u : User) (p : Position) → (gone_on o u p).waited ≡ p.waited
+gone-waits None u p = refl
+gone-waits (Some x) u p = refl
 
--- behind an entry its user waits with it, if with one
-behind-it : (u : User) (number m : ℕ) (a : Answer) → (behind u number a).waited ≡ Some m → m ≡ number
-behind-it u number m answer.Waits e = sym (some-same number m e)
-behind-it u number m a e = absurd cc
+started-in : (us : List User) (i : ℕ) (p : Position) → slice_get (map started us) i ≡ Some p → p.waited ≡ None
+started-in [] i p at = absurd cc
+started-in (u ∷ us) zero p at = ap (λ (q : Position). q.waited) (sym (some-same (started u) p at)) ∙ gone-waits (starts u.ops) u begun
+started-in (u ∷ us) (suc i) p at = started-in us i p at
+
+-- a user whose entry waits waits with it
+waiting-it : (os : List Op) (u : User) (number m : ℕ) (s : Saved) → (waiting_behind os u number s).waited ≡ Some m → m ≡ number
+waiting-it [] u number m s e = sym (some-same number m e)
+waiting-it (o ∷ os) u number m s e = sym (some-same number m e)
+
+-- after an entry its user waits with it, if with one
+behind-it : (u : User) (number m : ℕ) (s : Saved) (a : Answer) → (behind u number s a).waited ≡ Some m → m ≡ number
+behind-it u number m s answer.Waits e = waiting-it u.ops u number m s e
+behind-it u number m s answer.Done e = absurd (none (sym (gone-waits (goes_on u.ops number s answer.Done) u (listed_behind u number s answer.Done)) ∙ e))
+  where
+    none : None ≡ Some m → ⊥
+    none f = absurd cc
+behind-it u number m s (answer.Got badge message) e = absurd (none (sym (gone-waits (goes_on u.ops number s (answer.Got badge message)) u (listed_behind u number s (answer.Got badge message))) ∙ e))
+  where
+    none : None ≡ Some m → ⊥
+    none f = absurd cc
+behind-it u number m s (answer.Heard word) e = absurd (none (sym (gone-waits (goes_on u.ops number s (answer.Heard word)) u (listed_behind u number s (answer.Heard word))) ∙ e))
+  where
+    none : None ≡ Some m → ⊥
+    none f = absurd cc
+behind-it u number m s answer.Empty e = absurd (none (sym (gone-waits (goes_on u.ops number s answer.Empty) u (listed_behind u number s answer.Empty)) ∙ e))
+  where
+    none : None ≡ Some m → ⊥
+    none f = absurd cc
+behind-it u number m s (answer.Refused why) e = absurd (none (sym (gone-waits (goes_on u.ops number s (answer.Refused why)) u (listed_behind u number s (answer.Refused why))) ∙ e))
+  where
+    none : None ≡ Some m → ⊥
+    none f = absurd cc
+
+-- what reaches a user changes nothing of what it waits with
+told-waits : (u : User) (a : Answer) (p : Position) → (told u a p).waited ≡ p.waited
+told-waits u a p = go p.waited
+  where
+    last : (number : ℕ) (b : Bool) → (cond b (gone_on (goes_on u.ops number p.saved a) u p) p).waited ≡ p.waited
+    last number true = gone-waits (goes_on u.ops number p.saved a) u p
+    last number false = refl
+
+    by : Option ℕ → Position
+    by o = elim o [ None ↦ p | Some number ↦ cond (comes_of u number a) (gone_on (goes_on u.ops number p.saved a) u p) p ]
+
+    go : (o : Option ℕ) → (by o).waited ≡ p.waited
+    go None = refl
+    go (Some number) = last number (comes_of u number a)
+
+told-if-waits : (u : User) (r : Reached) (p : Position) → (told_if u r p).waited ≡ p.waited
+told-if-waits u r p = go (same u.thread r.thread)
+  where
+    go : (b : Bool) → (cond b (told u r.answer p) p).waited ≡ p.waited
+    go true = told-waits u r.answer p
+    go false = refl
+
+told-all-waits : (rs : List Reached) (u : User) (p : Position) → (told_all rs u p).waited ≡ p.waited
+told-all-waits [] u p = refl
+told-all-waits (r ∷ rs) u p = told-all-waits rs u (told_if u r p) ∙ told-if-waits u r p
+
+place-told-waits : (rs : List Reached) (own : ℕ) (users : List User) (i : ℕ) (p : Position) → (place_told rs own users i p).waited ≡ p.waited
+place-told-waits rs own users i p = go (i == own) (slice_get users i)
+  where
+    go : (b : Bool) (o : Option User) → (cond b p (elim o [ None ↦ p | Some u ↦ told_all rs u p ])).waited ≡ p.waited
+    go true o = refl
+    go false None = refl
+    go false (Some u) = told-all-waits rs u p
+
+-- who stands in a place stood there before, and waits as before
+told-in : (rs : List Reached) (own i : ℕ) (users : List User) (ps : List Position) (j : ℕ) (p : Position) → slice_get (all_told rs own i users ps) j ≡ Some p → (q : Position) × ((slice_get ps j ≡ Some q) × (q.waited ≡ p.waited))
+told-in rs own i users [] j p at = absurd cc
+told-in rs own i users (q ∷ qs) zero p at = (q, (refl, sym (place-told-waits rs own users i q) ∙ ap (λ (x : Position). x.waited) (some-same (place_told rs own users i q) p at)))
+told-in rs own i users (q ∷ qs) (suc j) p at = told-in rs own (i + 1) users qs j p at
 
 waits-entry : (users : List User) (boot : Boot) (n : ℕ) (g : Going) → IsRun users boot n g → (i m : ℕ) (p : Position) → slice_get g.places i ≡ Some p → p.waited ≡ Some m → IsEntry users i m
 waits-entry users boot zero g begins i m p at waits =
-    let is = begun-in users i p (ap (λ (x : Going). slice_get x.places i) (sym begins) ∙ at) in
-    absurd (none (ap (λ (q : Position). q.waited) (sym is) ∙ waits))
+    absurd (none (sym (started-in users i p (ap (λ (x : Going). slice_get x.places i) (sym begins) ∙ at)) ∙ waits))
   where
     none : None ≡ Some m → ⊥
     none e = absurd cc
 waits-entry users boot (suc n) h (g, (run, follows)) i m p at waits =
-    go (put-in k.user there g.places i p (ap (λ (x : Going). slice_get x.places i) (sym turn.after) ∙ at)) (λ before. waits-entry users boot n g run i m p before waits)
+    let before = told-in (reached_from None (outcome g.book step).records) k.user 0 users (put_at k.user there g.places) i p (ap (λ (x : Going). slice_get x.places i) (sym turn.after) ∙ at) in
+    go before.0 (put-in k.user there g.places i before.0 before.1.0) (before.1.1 ∙ waits) (λ q was w. waits-entry users boot n g run i m q was w)
   where
     k : Pick
     k = follows.pick
@@ -54,15 +129,15 @@ waits-entry users boot (suc n) h (g, (run, follows)) i m p at waits =
     turn = follows.turn
 
     step : Step
-    step = record { core = follows.core; thread = turn.user.thread; entry = turn.entry }
+    step = record { core = follows.core; thread = turn.user.thread; entry = given g turn.user k turn.entry }
 
     there : Position
-    there = behind turn.user k.number (outcome g.book step).answer
+    there = behind turn.user k.number (saved_at g k.user) (outcome g.book step).answer
 
-    go : ((i ≡ k.user) × (p ≡ there)) ⊎ (slice_get g.places i ≡ Some p) → (slice_get g.places i ≡ Some p → IsEntry users i m) → IsEntry users i m
-    go (inr before) old = old before
-    go (inl e) old =
-        let number = behind-it turn.user k.number m (outcome g.book step).answer (ap (λ (q : Position). q.waited) (sym e.1) ∙ waits) in
+    go : (q : Position) → ((i ≡ k.user) × (q ≡ there)) ⊎ (slice_get g.places i ≡ Some q) → q.waited ≡ Some m → ((q : Position) → slice_get g.places i ≡ Some q → q.waited ≡ Some m → IsEntry users i m) → IsEntry users i m
+    go q (inr before) w old = old q before w
+    go q (inl e) w old =
+        let number = behind-it turn.user k.number m (saved_at g k.user) (outcome g.book step).answer (ap (λ (x : Position). x.waited) (sym e.1) ∙ w) in
         let is : IsEntry users k.user k.number = record { one = turn.user; entry = turn.entry; is_user = turn.is_user; is_entry = turn.is_entry } in
         subst (λ j. IsEntry users j m) (sym e.0) (subst (λ x. IsEntry users k.user x) (sym number) is)
 

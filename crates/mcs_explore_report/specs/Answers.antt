@@ -8,9 +8,9 @@ use Rattle.mcs_turns.specs.Turns.{User, Going}
 use Rattle.mcs_explore_walk.specs.declared.walk.Turn.{Turn}
 use Rattle.mcs_explore_orders.specs.Shown.{Made}
 use Rattle.mcs_explore_report.specs.declared.answers.Told.{Told}
-use Rattle.mcs_explore_report.specs.declared.mail.Reached.{Reached}
+use Rattle.mcs_turns.specs.declared.reached.Reached.{Reached}
 use Rattle.mcs_explore_script.specs.UserLists.{user_of}
-use Rattle.mcs_explore_report.specs.Mail.{brought, is_send}
+use Rattle.mcs_turns.specs.Mail.{brought, is_send}
 
 -- the answers of the entries of all users
 abbrev pub Tables : Type 0

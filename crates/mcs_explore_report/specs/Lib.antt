@@ -1,7 +1,6 @@
 pub mod Standings
 pub mod Endings
 pub mod Ends
-pub mod Mail
 pub mod Answers
 pub mod Firsts
 pub mod Kept

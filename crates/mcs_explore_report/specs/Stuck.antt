@@ -5,7 +5,7 @@ use Rattle.mcs_types.specs.declared.entry.Answer.{Answer}
 use Rattle.mcs_types.specs.declared.entry.Answer.TheVariants as answer
 use Rattle.mcs_book.specs.Boots.{Boot}
 use Rattle.mcs_turns.specs.declared.position.Pick.{Pick}
-use Rattle.mcs_turns.specs.Turns.{User, Going, Follows, IsRun}
+use Rattle.mcs_turns.specs.Turns.{User, Going, Follows, IsRun, is_program}
 use Rattle.mcs_explore_search.specs.declared.search.Edge.{Edge}
 use Rattle.mcs_explore_search.specs.Paths.{Run}
 use Rattle.mcs_explore_search.specs.Reaching.{IsLed}
@@ -15,11 +15,11 @@ use Rattle.mcs_explore_walk.specs.Walks.{last_answer}
 use Rattle.mcs_explore_orders.specs.Shown.{Made, Shown, Sight}
 use Rattle.mcs_explore_orders.specs.Trails.{Leads}
 use Rattle.mcs_explore_script.specs.declared.lives.Live.{Live}
-use Rattle.mcs_explore_report.specs.declared.mail.Reached.{Reached}
+use Rattle.mcs_turns.specs.declared.reached.Reached.{Reached}
 use Rattle.mcs_explore_report.specs.Answers.{mailed_to}
 use Rattle.mcs_explore_report.specs.Found.{IsAt}
 use Rattle.mcs_explore_report.specs.Judging.{answered}
-use Rattle.mcs_explore_report.specs.Mail.{brought}
+use Rattle.mcs_turns.specs.Mail.{brought}
 
 -- whether a list that goes on with this entry behind its last comes to another one again
 abbrev pub comes_again : Option ℕ → ℕ → Bool
@@ -27,10 +27,10 @@ comes_again None e = false
 comes_again (Some first) e = nat_le first e
 
 -- whether a user that was answered so many entries was answered what is asked for, and does not
--- come back to it
+-- come back to it; of an entry of a program that is not known
 abbrev pub settled_by : User → Option ℕ → ℕ → Bool
 settled_by u None count = nat_le (length u.entries) count
-settled_by u (Some e) count = nat_lt e count && not (comes_again u.again e)
+settled_by u (Some e) count = not (is_program u.ops) && (nat_lt e count && not (comes_again u.again e))
 
 -- whether the user of a question was; so it is where there is no such user
 abbrev pub is_settled : List User → Live → Going → Bool

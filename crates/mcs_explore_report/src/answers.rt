@@ -1,7 +1,7 @@
 //! The answers that entries can get.
 ghost use Rattle.std.specs.Prelude.{◌≡◌, ◌↔◌, ◌++◌, ◌∷◌, [], IsTrue, IfOk, OnOk, map, slice_get, unwrap_or};
 ghost use Rattle.mcs_explore_report.specs.Answers.{IsAmong, IsNoted, IsNotedIn, IsNotedOf, IsNotedTurn, no_answers, table_of};
-ghost use Rattle.mcs_explore_report.specs.Mail.{is_send};
+ghost use Rattle.mcs_turns.specs.Mail.{is_send};
 
 use mcs_explore_orders::{OrdersFault, Turn, Users};
 use mcs_types::{Answer, Entry};

@@ -7,17 +7,18 @@ ghost use Rattle.mcs_sim.specs.Trace.{sent_after, sent_with};
 ghost use Rattle.mcs_explore_report.specs.Judging.{answered, answered_by, bare, ended_by, fails, fails_by, fails_in, given_by, gives, has_given, is_at, is_in, is_line, is_within, lines_told, record_lines, told_last};
 ghost use Rattle.mcs_explore_report.specs.Judged.{AreJudgedBy, judged};
 
-use crate::mail::newest;
 use mcs_book::Line as BookLine;
 use mcs_explore_orders::{Turn, Users, Walk};
 use mcs_explore_questions::{Asked, Event, Span, Until, is_match};
 use mcs_explore_script::AskedLine;
+use mcs_explore_walk::newest;
 use mcs_kernel::Kernel;
 use mcs_packing::KeptRecord;
 use mcs_queues::PlainLines;
 use mcs_trace::{Line, spell_answer, spell_record};
 use mcs_turns::Position;
 use mcs_types::Status;
+use mcs_users::current;
 
 /// Where something is seen: in a state, or by a turn from it.
 #[derive(Clone, Copy, Drop)]
@@ -44,7 +45,7 @@ pub fn answered(users: &Users, walk: &Walk<PlainLines>, user: usize) -> usize
         return 0;
     };
     match walk.place(user) {
-        Some(place) => answered_by(walk.kernel().status(list.thread), place),
+        Some(place) => answered_by(walk.kernel().status(list.thread), current(list, place)),
         None => 0,
     }
 }
@@ -86,7 +87,10 @@ fn is_at(users: &Users, walk: &Walk<PlainLines>, span: Span, user: usize) -> boo
         return false;
     };
     match walk.place(user) {
-        Some(place) => is_within(span, walk.kernel().status(list.thread), place),
+        Some(place) => {
+            let status = walk.kernel().status(list.thread);
+            is_within(span, status, current(list, place))
+        }
         None => false,
     }
 }

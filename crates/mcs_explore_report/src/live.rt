@@ -4,16 +4,16 @@ ghost use Rattle.std.specs.Prelude.{true, ◌≡◌, ◌++◌, ◌∷◌, [], If
 ghost use Rattle.std.specs.List.{list_any};
 ghost use Rattle.mcs_explore_search.specs.Reaching.{AreWithin};
 ghost use Rattle.mcs_explore_report.specs.Stuck.{AreNotedOn, IsFirstUnled, answers, comes_again, first_marks, is_about, is_mailed, is_settled, is_waits, settled_by, with_made, with_mark, with_marks, with_sight};
-ghost use Rattle.mcs_explore_report.specs.Mail.{brought};
+ghost use Rattle.mcs_turns.specs.Mail.{brought};
 
 use crate::judging::answered;
-use crate::mail::{Reached, mailed_to};
+use crate::mail::mailed_to;
 use mcs_explore_orders::{Orders, OrdersFault, Turn, UserList, Users, Walk, Watch};
 use mcs_explore_script::Live;
 use mcs_explore_search::mark_all_led;
 use mcs_lab_check::LabFault;
 use mcs_queues::PlainLines;
-use mcs_turns::Pick;
+use mcs_turns::{Pick, Reached};
 use mcs_types::Answer;
 use std::alloc::Global;
 use std::marker::Model;
@@ -47,12 +47,13 @@ fn comes_again(list: &UserList, entry: usize) -> bool
     }
 }
 
-/// Returns whether a user that was answered so many entries is done with what is asked for.
+/// Returns whether a user that was answered so many entries is done with what is asked for; of an
+/// entry of a program that is not known.
 fn settled_by(list: &UserList, entry: Option<usize>, count: usize) -> bool
     ensures { result ≡ settled_by list.now entry count }
 {
     match entry {
-        Some(entry) => entry < count && !comes_again(list, entry),
+        Some(entry) => !list.has_program() && entry < count && !comes_again(list, entry),
         None => list.entries.len() <= count,
     }
 }

@@ -1,24 +1,16 @@
 //! What reaches threads whose entries wait, by a line.
-ghost use Rattle.std.specs.Prelude.{◌≡◌, ◌++◌, IfOk, None, OnOk, length};
-ghost use Rattle.mcs_book.specs.History.{line_of_number};
+ghost use Rattle.std.specs.Prelude.{◌≡◌, ◌++◌, IfOk, None, OnOk};
 ghost use Rattle.mcs_explore_report.specs.Answers.{AreNotedMail, IsNotedMail, comes_to, gave_send, mailed_to, waiting};
-ghost use Rattle.mcs_explore_report.specs.Mail.{brought, got_with, listed, reached_from, reaching, taken};
+ghost use Rattle.mcs_turns.specs.Mail.{brought, got_with, listed, reached_from, reaching, taken};
 
 use crate::answers::{Answers, is_send};
 use mcs_book::Line;
 use mcs_explore_orders::{OrdersFault, Turn, Users, Walk};
-use mcs_kernel::Kernel;
+use mcs_explore_walk::newest;
 use mcs_queues::PlainLines;
-use mcs_turns::Pick;
+use mcs_turns::{Pick, Reached};
 use mcs_types::{Answer, Badge, Mode, ObjId, Rec};
 use std::alloc::Global;
-
-/// What reached a thread.
-#[derive(Drop)]
-pub struct Reached {
-    pub thread: ObjId,
-    pub answer: Answer,
-}
 
 /// What a taker gets of the message that a line sent last, with a record more.
 fn got_with(alloc: Global, got: Option<Answer>, fact: &Rec) -> Result<Option<Answer>, OrdersFault>
@@ -111,14 +103,6 @@ fn reached_by(alloc: Global, line: &Line<'_>) -> Result<Vec<Reached>, OrdersFaul
     Ok(all)
 }
 
-/// The newest line of a kernel's book.
-pub fn newest(kernel: &Kernel<PlainLines>) -> Option<Line<'_>>
-    ensures { result ≡ line_of_number kernel.now (length kernel.now.lines) }
-{
-    let book = kernel.book();
-    book.line(book.lines().saturating_sub(1))
-}
-
 /// Returns whether the entry of a user with this number is Send.
 fn gave_send(users: &Users, user: usize, number: usize) -> bool
     ensures { result ≡ gave_send users.now user number }
@@ -208,7 +192,7 @@ pub fn note_mail(
 }
 
 /// Returns what the newest line brought to threads.
-#[tactic(auto, using(crate::proofs::Telling::brought_by))]
+#[tactic(auto, using(mcs_explore_walk::proofs::LastLine::brought_by, mcs_explore_walk::proofs::LastLine::brought_nothing))]
 pub fn brought(alloc: Global, walk: &Walk<PlainLines>) -> Result<Vec<Reached>, OrdersFault>
     ensures { IfOk result (λ v. v.items ≡ brought walk.now.book) }
 {

@@ -63,9 +63,13 @@ core-told a b x y h = let p = parted _ _ _ _ h in (ap (λ n. record { 0 = n }) p
 
 position-told : Tells position_numbers
 position-told a b x y h =
-    let nexts = parted _ _ _ _ h in
-    let waits = option-told one one-told a.waited b.waited x y nexts.1 in
-    (ap (λ n. record { next = n; waited = a.waited }) nexts.0 ∙ ap (λ o. record { next = b.next; waited = o }) waits.0, waits.1)
+    let nexts = parted a.next b.next _ _ h in
+    let firsts = parted a.saved.a b.saved.a _ _ nexts.1 in
+    let seconds = parted a.saved.b b.saved.b _ _ firsts.1 in
+    let thirds = parted a.saved.c b.saved.c _ _ seconds.1 in
+    let fourths = parted a.saved.d b.saved.d _ _ thirds.1 in
+    let waits = option-told one one-told a.waited b.waited x y fourths.1 in
+    (λ i. record { next = nexts.0 i; waited = waits.0 i; saved = record { a = firsts.0 i; b = seconds.0 i; c = thirds.0 i; d = fourths.0 i } }, waits.1)
 
 pick-told : Tells pick_numbers
 pick-told a b x y h =

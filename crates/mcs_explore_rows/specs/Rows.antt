@@ -95,9 +95,9 @@ abbrev pub object_rows : Bool → Log → List (List ℕ)
 object_rows numbered R = rows_of_kind numbered R kind.CNode ++ (rows_of_kind numbered R kind.Thread ++ (rows_of_kind numbered R kind.Endpoint
     ++ (rows_of_kind numbered R kind.Notification ++ (rows_of_kind numbered R kind.Reply ++ rows_of_kind numbered R kind.Context))))
 
--- the position of a user
+-- the position of a user, and the words that it keeps
 abbrev pub position_numbers : Position → List ℕ
-position_numbers p = p.next ∷ option_numbers one p.waited
+position_numbers p = p.next ∷ p.saved.a ∷ p.saved.b ∷ p.saved.c ∷ p.saved.d ∷ option_numbers one p.waited
 
 abbrev pub pick_numbers : Pick → List ℕ
 pick_numbers k = k.user ∷ k.number ∷ []

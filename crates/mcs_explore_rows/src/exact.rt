@@ -252,6 +252,10 @@ fn put_position(row: &mut Row, position: Position) -> Result<(), AllocError>
     ensures { OnOk result (row.new.items ≡ row.old.items ++ position_numbers position) }
 {
     put(row, position.next as u64)?;
+    put(row, position.saved.a)?;
+    put(row, position.saved.b)?;
+    put(row, position.saved.c)?;
+    put(row, position.saved.d)?;
     match position.waited {
         Some(number) => put_any(row, Some(number as u64)),
         None => put_any(row, None),

@@ -1,2 +1,3 @@
+pub mod ProgramLines
 pub mod StepLines
 pub mod Texts

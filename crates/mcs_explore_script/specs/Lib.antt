@@ -1,4 +1,5 @@
 pub mod Texts
+pub mod Programs
 pub mod Questions
 pub mod UserLists
 pub mod Lives

@@ -1,7 +1,7 @@
 -- Users that may not get stuck (own).
 use Rattle.std.specs.Prelude.{ℕ, ◌+◌, ◌-◌, ◌++◌, cond, flat_map, length, List, [], ◌∷◌, Option, Some, None, slice_get}
 use Rattle.std.specs.List.{list_any}
-use Rattle.mcs_turns.specs.Turns.{User}
+use Rattle.mcs_turns.specs.Turns.{User, is_program}
 use Rattle.mcs_explore_questions.specs.declared.asking.Asked.{Asked}
 use Rattle.mcs_explore_questions.specs.declared.asking.Asked.TheVariants as asked
 use Rattle.mcs_explore_questions.specs.Asking.{is_of_waits}
@@ -10,9 +10,9 @@ use Rattle.mcs_explore_script.specs.declared.questions.AskedLine.{AskedLine}
 use Rattle.mcs_explore_script.specs.UserLists.{user_of}
 
 -- the entry that can be answered in some order as long as a user is not stuck: its last; any, where
--- it goes on again
+-- it goes on again or by a program
 abbrev pub last_entry : User → Option ℕ
-last_entry u = elim u.again [ None ↦ Some (length u.entries - 1) | Some first ↦ None ]
+last_entry u = cond (is_program u.ops) None (elim u.again [ None ↦ Some (length u.entries - 1) | Some first ↦ None ])
 
 -- an entry by its number from 1 on, as the number from 0; where there is none, the last
 abbrev pub entry_asked : Option ℕ → User → Option ℕ

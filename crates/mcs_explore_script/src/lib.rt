@@ -4,14 +4,17 @@
 //! ```text
 //! source ── text ──> its bytes, the boot and the entries, as `mcssim run` reads them
 //!     ── marks ──> the names (`#@`), and the text of each entry
+//!     ── programs ──> what the lines `#! THREAD: STATEMENT` say, by `mcs_explore_programs`
 //!     ── questions ──> what the lines `#!` ask
-//!     ── users ──> a list of entries for each thread, and the entry with which it goes on again
+//!     ── users ──> a list of entries for each thread, the entry with which it goes on again, or
+//!          its program
 //! a book ── steps ──> its boot and its steps, each with its answer
 //! ```
 #![tactic(auto)]
 
 mod lives;
 mod marks;
+mod programs;
 mod questions;
 mod script;
 mod steps;

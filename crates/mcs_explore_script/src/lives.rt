@@ -19,10 +19,14 @@ pub struct Live {
 }
 
 /// Returns the entry that can be answered in some order as long as a user is not stuck: the last
-/// one, which is answered after all others; none in particular where the user never ends.
+/// one, which is answered after all others; none in particular where the user never ends, or goes
+/// on by a program.
 fn last_entry(list: &UserList) -> Option<usize>
     ensures { result ≡ last_entry list.now }
 {
+    if list.has_program() {
+        return None;
+    }
     match list.again {
         Some(_) => None,
         None => Some(list.entries.len().saturating_sub(1)),

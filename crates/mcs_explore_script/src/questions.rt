@@ -1,8 +1,9 @@
 //! The questions of a script.
 ghost use Rattle.std.specs.Prelude.{◌≡◌, ◌++◌, ◌∷◌, [], cond, map, IfOk, OnOk};
 ghost use Rattle.mcs_text.specs.Reading.{lines_of};
-ghost use Rattle.mcs_explore_script.specs.Questions.{is_question, numbers_from};
+ghost use Rattle.mcs_explore_script.specs.Questions.{is_marked, is_question, numbers_from};
 
+use crate::programs::is_program_line;
 use mcs_explore_questions::{Asked, ExploreFault, QuestionFault, There, asked_of, question_of};
 use mcs_text::Lines;
 use std::alloc::Global;
@@ -15,14 +16,21 @@ pub struct AskedLine {
     pub line: u64,
 }
 
-/// Returns whether a line asks something.
-fn is_question(line: &[u8]) -> bool
-    ensures { result ≡ is_question line.now }
+/// Returns whether a line begins with `#!`.
+fn is_marked(line: &[u8]) -> bool
+    ensures { result ≡ is_marked line.now }
 {
     match line {
         [first, second, ..] => *first == b'#' && *second == b'!',
         _ => false,
     }
+}
+
+/// Returns whether a line asks something: it is none of a program.
+fn is_question(line: &[u8]) -> bool
+    ensures { result ≡ is_question line.now }
+{
+    is_marked(line) && !is_program_line(line)
 }
 
 /// Returns the text of a question and what it asks of a script.

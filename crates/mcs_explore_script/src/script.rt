@@ -1,16 +1,18 @@
 //! What a script of users says.
 ghost use Rattle.std.specs.Prelude.{IfOk};
-ghost use Rattle.mcs_explore_script.specs.Scripts.{IsScript};
+ghost use Rattle.mcs_explore_script.specs.Scripts.{AreUsers, IsScript};
 
 use crate::lives::{Live, lives_of};
 use crate::marks::{EntryText, entry_texts, read_names};
+use crate::programs::read_programs;
 use crate::questions::{AskedLine, read_questions};
 use crate::text::{UsersText, read_text};
-use crate::users::{come_once, repeat, users_of};
+use crate::users::{add_programs, come_once, repeat, users_of};
 use mcs_explore_questions::{ExploreFault, There};
 use mcs_kernel::Boot;
 use mcs_lab_check::{LabFault, Names};
 use mcs_sim::Source;
+use mcs_text::UserEntry;
 use mcs_users::Users;
 use std::alloc::Global;
 use std::io::Read;
@@ -28,8 +30,43 @@ pub struct UserScript {
     pub names: Names,
 }
 
+/// The users of a script, and the text of each of their entries.
+#[derive(Drop)]
+struct UserTexts {
+    users: Users,
+    texts: Vec<EntryText>,
+}
+
+/// Reads the programs of a text, and returns its users with the texts of their entries. The
+/// faults are those of `entry_texts`, then of `read_programs`; OutOfMemory where memory was
+/// refused.
+fn read_users(
+    alloc: Global,
+    text: &[u8],
+    boot: &Boot,
+    entries: Vec<UserEntry>,
+    names: &Names,
+) -> Result<UserTexts, ExploreFault>
+    ensures { IfOk result (λ s. AreUsers text.now entries.items s.users) }
+{
+    let mut texts = entry_texts(alloc, text, &entries)?;
+    let Ok(mut users) = users_of(alloc, entries) else {
+        return Err(ExploreFault::Lab(LabFault::OutOfMemory));
+    };
+    let there = There {
+        boot: boot.lines(),
+        users: &users,
+        names,
+    };
+    let programs = read_programs(alloc, there, text)?;
+    let Ok(()) = add_programs(&mut users, &mut texts, programs) else {
+        return Err(ExploreFault::Lab(LabFault::OutOfMemory));
+    };
+    Ok(UserTexts { users, texts })
+}
+
 /// Reads a source to its end. The faults are first those of `mcssim run`, in the order of lines,
-/// then of names, and then of questions.
+/// then of names, of programs, and then of questions, which may name entries of any program.
 pub fn read_script<R: Read>(alloc: Global, from: &mut Source<R>) -> Result<UserScript, ExploreFault>
     ensures { IfOk result (λ s. IsScript (R.remaining from.old.reader)
         (R.remaining from.new.reader) s) }
@@ -43,10 +80,7 @@ pub fn read_script<R: Read>(alloc: Global, from: &mut Source<R>) -> Result<UserS
         Err(fault) => return Err(ExploreFault::Lab(LabFault::from(fault))),
     };
     let names = read_names(alloc, &text)?;
-    let texts = entry_texts(alloc, &text, &entries)?;
-    let Ok(mut users) = users_of(alloc, entries) else {
-        return Err(ExploreFault::Lab(LabFault::OutOfMemory));
-    };
+    let UserTexts { mut users, texts } = read_users(alloc, &text, &boot, entries, &names)?;
     let there = There {
         boot: boot.lines(),
         users: &users,

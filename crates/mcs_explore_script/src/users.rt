@@ -1,11 +1,15 @@
 //! The users of a script.
 ghost use Rattle.std.specs.Prelude.{◌≡◌, [], IfOk, OnOk};
+ghost use Rattle.mcs_users.specs.Users.{with_entry};
+ghost use Rattle.mcs_explore_script.specs.Programs.{with_one_program, with_program_entries, with_programs};
 ghost use Rattle.mcs_explore_script.specs.UserLists.{all_again, asked_again, with_entries};
 
+use crate::marks::EntryText;
 use crate::questions::AskedLine;
+use mcs_explore_programs::{Program, ProgramEntry};
 use mcs_explore_questions::{Asked, ExploreFault, comes_once, goes_on_once};
 use mcs_text::UserEntry;
-use mcs_types::OutOfMemory;
+use mcs_types::{ObjId, OutOfMemory};
 use mcs_users::Users;
 use std::alloc::Global;
 
@@ -18,6 +22,72 @@ pub fn users_of(alloc: Global, entries: Vec<UserEntry>) -> Result<Users, OutOfMe
         users.add(said.thread, said.entry)?;
     }
     Ok(users)
+}
+
+/// Adds an entry of a program, and its text. OutOfMemory where memory was refused.
+fn add_entry(
+    users: &mut Users,
+    texts: &mut Vec<EntryText>,
+    thread: ObjId,
+    given: ProgramEntry,
+) -> Result<(), OutOfMemory>
+    ensures { OnOk result (users.new ≡ with_entry users.old thread given.entry) }
+{
+    let ProgramEntry { entry, text } = given;
+    users.add(thread, entry)?;
+    match texts.push(EntryText { thread, text }) {
+        Ok(()) => Ok(()),
+        Err(_) => Err(OutOfMemory),
+    }
+}
+
+/// Adds the entries of a program, and their texts. OutOfMemory where memory was refused.
+fn add_entries(
+    users: &mut Users,
+    texts: &mut Vec<EntryText>,
+    thread: ObjId,
+    entries: Vec<ProgramEntry>,
+) -> Result<(), OutOfMemory>
+    ensures { OnOk result (users.new ≡ with_program_entries users.old thread entries.items) }
+{
+    for given in entries {
+        add_entry(users, texts, thread, given)?;
+    }
+    Ok(())
+}
+
+/// Adds a program, and the texts of its entries. OutOfMemory where memory was refused.
+fn add_program(
+    users: &mut Users,
+    texts: &mut Vec<EntryText>,
+    program: Program,
+) -> Result<(), OutOfMemory>
+    ensures { OnOk result (users.new ≡ with_one_program users.old program) }
+{
+    let Program {
+        thread,
+        entries,
+        ops,
+        fills,
+        names: _,
+    } = program;
+    add_entries(users, texts, thread, entries)?;
+    users.program(thread, ops, fills);
+    Ok(())
+}
+
+/// Adds programs, and the texts of their entries. OutOfMemory where memory was refused.
+pub fn add_programs(
+    users: &mut Users,
+    texts: &mut Vec<EntryText>,
+    programs: Vec<Program>,
+) -> Result<(), OutOfMemory>
+    ensures { OnOk result (users.new ≡ with_programs users.old programs.items) }
+{
+    for program in programs {
+        add_program(users, texts, program)?;
+    }
+    Ok(())
 }
 
 /// Lets a list go on again, where a question asks for it.

@@ -15,7 +15,7 @@ use Rattle.mcs_book.specs.Statuses.{may_enter}
 use Rattle.mcs_book.proofs.Books.KnownCores.{legal-cores}
 use Rattle.mcs_turns.specs.declared.position.Pick.{Pick}
 use Rattle.mcs_turns.specs.Due.{is_same}
-use Rattle.mcs_turns.specs.Turns.{User, Going, AreApart, ArePicks, Follows, IsOver, IsStale, IsTurn, entered, outcome}
+use Rattle.mcs_turns.specs.Turns.{User, Going, AreApart, ArePicks, Follows, IsOver, IsStale, IsTurn, entered, given, outcome}
 use Rattle.mcs_turns.proofs.OneTurn.{one-at, one-picks}
 use Rattle.mcs_explore_walk.specs.declared.walk.Turn.{Turn}
 use Rattle.mcs_explore_walk.specs.Walks.{IsEntrant, IsPicked, HasEachTurn, ArePicked, HasNoTurn, is_other, picked_of, stale_turns, step_of, turn_now, turn_of, turns_below, turns_of, turns_on}
@@ -231,7 +231,7 @@ none-over users g ts n each long none = λ h f.
 pub some-turn : {X : Type 0} (users : List User) (g : Going) (picks : List (Option Pick)) (t : Turn) (user : X → User) (entry : X → Entry) (o : Option X) → ArePicks users g picks
     → IfSome o (λ x. IsEntrant users g picks t (user x) (entry x)) → is_some o ≡ true → (h : Going) × IsTurn users t.core t.pick g h
 some-turn users g picks t user entry (Some x) are is there = (
-  entered picks (user x) (step_of t.core (user x) (entry x)) t.pick g,
+  entered users picks (user x) (step_of t.core (user x) (given g (user x) t.pick (entry x))) t.pick g,
   record {
     user = user x;
     entry = entry x;

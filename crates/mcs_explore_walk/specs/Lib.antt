@@ -1,1 +1,2 @@
+pub mod Mail
 pub mod Walks

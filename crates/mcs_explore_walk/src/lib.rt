@@ -5,10 +5,12 @@
 
 mod copies;
 mod fault;
+mod mail;
 mod turns;
 mod walk;
 
 pub use fault::OrdersFault;
+pub use mail::newest;
 pub use mcs_turns::{Pick, Position};
 pub use mcs_users::{Picks, UserList, Users};
 pub use walk::{Turn, Walk, picked};

@@ -6,17 +6,19 @@ ghost use Rattle.mcs_book.specs.Picking.{GoesBefore};
 ghost use Rattle.mcs_book.specs.Statuses.{is_ready, may_enter, status_of};
 ghost use Rattle.mcs_book.specs.Threads.{prio_of};
 ghost use Rattle.mcs_turns.specs.declared.position.Position.{Position};
-ghost use Rattle.mcs_turns.specs.Due.{begun, none_stale, stale_after};
-ghost use Rattle.mcs_turns.specs.Turns.{Going, IsStale, ArePicks, IsOver, IsTurn, Follows, beginning, behind, entered, put_at};
+ghost use Rattle.mcs_turns.specs.Due.{none_stale, stale_after};
+ghost use Rattle.mcs_turns.specs.Mail.{brought};
+ghost use Rattle.mcs_turns.specs.Turns.{Going, IsStale, ArePicks, IsOver, IsTurn, Follows, all_told, beginning, entered, put_at, saved_at, started};
 ghost use Rattle.mcs_explore_walk.specs.Walks.{AreBestBelow, EntersSomewhere, HasEachTurn, HasNoTurn, IsBestBelow, IsEntrant, IsEntryCore, IsOffer, IsPicked, is_let_in, last_answer, left_stale, picked_of, step_of};
 
 use crate::copies::{copy_all, push};
 use crate::fault::{OrdersFault, limit_of};
+use crate::mail::{newest, tell_all};
 use mcs_kernel::{Boot, EnterFault, Kernel};
 use mcs_queues::Lines;
-use mcs_turns::{Pick, Position};
+use mcs_turns::{Pick, Position, Saved, filled};
 use mcs_types::{Answer, CoreId, Entry, ObjId, OutOfMemory, Status, copy_rows};
-use mcs_users::{Picks, UserList, Users};
+use mcs_users::{Picks, UserList, Users, current, first_place, place_behind};
 use std::alloc::Global;
 use std::marker::Model;
 
@@ -133,12 +135,11 @@ fn goes_before<L: Lines>(kernel: &Kernel<L>, thread: ObjId, other: ObjId) -> boo
 
 /// The positions of so many users before the first turn.
 fn first_places(alloc: Global, users: &[UserList]) -> Result<Vec<Position>, OutOfMemory>
-    ensures { IfOk result (λ v. v.items ≡ map (λ u. begun) users.now) }
+    ensures { IfOk result (λ v. v.items ≡ map started users.now) }
 {
     let mut places = Vec::with_capacity(alloc, users.len())?;
     for user in users {
-        let _ = user;
-        push(&mut places, Position::start())?;
+        push(&mut places, first_place(user))?;
     }
     Ok(places)
 }
@@ -152,21 +153,6 @@ fn no_stale(alloc: Global, cores: u8) -> Result<Vec<Picks>, OutOfMemory>
         push(&mut stale, Picks::new(alloc))?;
     }
     Ok(stale)
-}
-
-/// The position of a user after an entry that was let in with this answer.
-fn position_behind(user: &UserList, number: usize, answer: &Answer) -> Position
-    requires { number < length user.now.entries }
-    ensures { result ≡ behind user.now number answer.now }
-{
-    let count = user.entries.len();
-    let mut place = Position::past(number, answer);
-    if let Some(first) = user.again
-        && place.next >= count
-    {
-        place.next = first;
-    }
-    place
 }
 
 /// Puts a position into a place, if there is such a place.
@@ -254,7 +240,7 @@ impl<L: Lines> Walk<L> {
         let list = users.at(user)?;
         let place = self.place(user)?;
         let status = self.kernel.status(list.thread);
-        let number = place.due(status);
+        let number = current(list, place).due(status);
         if number >= list.entries.len() {
             return None;
         }
@@ -381,12 +367,35 @@ impl<L: Lines> Walk<L> {
         is_picked(picks, turn) || self.was_picked(turn)
     }
 
+    /// The words that the user in a place keeps.
+    fn saved(&self, user: usize) -> Saved
+        ensures { result ≡ saved_at self.now user }
+    {
+        match self.place(user) {
+            Some(place) => place.saved,
+            None => Saved::none(),
+        }
+    }
+
+    /// Moves all users but the one that entered to where they are after the newest line.
+    #[tactic(auto, using(crate::proofs::Telling::told_newest, crate::proofs::Telling::told_no_line))]
+    fn tell(&mut self, users: &Users, own: usize)
+        ensures { self.new ≡ record self.old {
+          places = all_told (brought self.old.book) own 0 users.now self.old.places;
+        } }
+    {
+        if let Some(line) = newest(&self.kernel) {
+            tell_all(&line, own, users.lists(), &mut self.places);
+        }
+    }
+
     /// Lets in an entry of a user, which has this number in its list and whose thread may enter on
-    /// the core of a turn, where the cores have these picks, and moves on. After an error nothing
-    /// has changed.
+    /// the core of a turn, where the cores have these picks, and moves on, as do the users whom its
+    /// line reaches. After an error nothing has changed.
     fn enter(
         &mut self,
         alloc: Global,
+        users: &Users,
         list: &UserList,
         entry: Entry,
         picks: &[Option<Pick>],
@@ -394,17 +403,19 @@ impl<L: Lines> Walk<L> {
     ) -> Result<Answer, OrdersFault>
         requires number { turn.pick.number < length list.now.entries }
         requires enters { may_enter (log_of self.old.book) turn.core list.now.thread ≡ true }
-        ensures entered { OnOk result (self.new
-            ≡ entered picks.now list.now (step_of turn.core list.now entry) turn.pick self.old) }
+        ensures entered { OnOk result (self.new ≡ entered users.now picks.now list.now
+            (step_of turn.core list.now entry) turn.pick self.old) }
         ensures answer { IfOk result (λ a. last_answer self.new.book ≡ Some a) }
         ensures err { OnErr result (self.new ≡ self.old) }
     {
         let stale = self.stale_after(alloc, turn.core, turn.pick.user, picks)?;
+        let saved = self.saved(turn.pick.user);
         match self.kernel.enter(alloc, turn.core, list.thread, entry) {
             Ok(answer) => {
-                let place = position_behind(list, turn.pick.number, &answer);
+                let place = place_behind(list, turn.pick.number, saved, &answer);
                 put(&mut self.places, turn.pick.user, place);
                 self.stale = stale;
+                self.tell(users, turn.pick.user);
                 Ok(answer)
             }
             Err(fault) => Err(limit_of(fault)),
@@ -482,13 +493,15 @@ impl<L: Lines> Walk<L> {
         ensures no_turn { IfOk result (λ o.
             IfNone o (HasNoTurn users.now self.old turn.core turn.pick)) }
         ensures none { IfOk result (λ o. IfNone o (self.new ≡ self.old)) }
-        ensures err { OnErr result (self.new ≡ self.old) }
     {
         let Some((list, entry)) = self.entrant(users, picks, turn) else {
             return Ok(None);
         };
         let entry = entry.copy(alloc)?;
-        let answer = self.enter(alloc, list, entry, picks, turn)?;
+        let saved = self.saved(turn.pick.user);
+        let fills = list.fills.as_slice();
+        let given = filled(alloc, fills, turn.pick.number, saved, entry)?;
+        let answer = self.enter(alloc, users, list, given, picks, turn)?;
         Ok(Some(answer))
     }
 

@@ -1,5 +1,5 @@
-//! All orders of the scripts of users in `examples/explore/`: what is reported of each, and how the
-//! scripts replay that show it.
+//! All orders of the scripts of users in `examples/explore/` and `examples/programs/`: what is
+//! reported of each, and how the scripts replay that show it.
 use mcs_explore_questions::ExploreFault;
 use mcs_explore_report::{Output, Saves, UserScript, Wanted, explore_script};
 use mcs_lab_check::{LabFault, check};
@@ -28,6 +28,15 @@ const SCRIPTS: &[&str] = &[
     "explore/made-waits.mcs",
     "explore/part.mcs",
     "explore/disk-log.mcs",
+    "programs/lock.mcs",
+    "programs/lock-twice.mcs",
+    "programs/files.mcs",
+    "programs/files-closed.mcs",
+    "programs/microkit.mcs",
+    "programs/microkit-lost.mcs",
+    "programs/retry.mcs",
+    "programs/retry-forever.mcs",
+    "programs/restarted.mcs",
 ];
 
 /// Those that are explored once more with exact keys.
@@ -75,14 +84,15 @@ const AS_JSON: &str = "explore/made-waits.mcs";
 /// How many budgets of states are tried with each script, from one state on.
 const BUDGETS: usize = 24;
 
-/// A script of users without questions.
-const ASKED: &str = "explore/asked.mcs";
+/// Scripts, and what follows them, each alone: questions, and lines of programs, most with a fault.
+const ASKED: &[(&str, &str)] = &[
+    ("explore/asked.mcs", "explore/questions.txt"),
+    ("programs/faults.mcs", "programs/faults.txt"),
+];
 
-/// Questions that are asked of it, each alone.
-const QUESTIONS: &str = "explore/questions.txt";
-
-/// A boot, and after each line `%` random entries of its users: by `tests/random-orders.py --data`.
-const RANDOM: &str = "explore/random.txt";
+/// A boot, and after each line `%` random entries or programs of its users: by
+/// `tests/random-orders.py --data` and `--programs --data`.
+const RANDOM: &[&str] = &["explore/random.txt", "programs/random.txt"];
 
 /// The scripts that were kept: how many, of how many the kernel accepts each step, in how many each
 /// answer is the one that is after its step, and how many steps they have in all.
@@ -291,8 +301,13 @@ fn ask<W: Write>(
 }
 
 /// Asks each question of a file of a script.
-fn ask_all<W: Write>(rt: &HostRuntime, to: &mut W) -> Result<(), ExploreFault> {
-    let (Ok(script), Ok(questions)) = (fs::read(rt, ASKED), fs::read(rt, QUESTIONS)) else {
+fn ask_all<W: Write>(
+    rt: &HostRuntime,
+    to: &mut W,
+    script: &str,
+    questions: &str,
+) -> Result<(), ExploreFault> {
+    let (Ok(script), Ok(questions)) = (fs::read(rt, script), fs::read(rt, questions)) else {
         return Err(ExploreFault::Lab(LabFault::Read));
     };
     for question in questions.split(|byte| *byte == b'%') {
@@ -367,8 +382,8 @@ fn are_alike(one: &[u8], other: &[u8]) -> bool {
 }
 
 /// Explores random scripts, by default and with exact keys, and says how many reports are alike.
-fn explore_random<W: Write>(rt: &HostRuntime, to: &mut W) -> Result<(), ExploreFault> {
-    let Ok(text) = fs::read(rt, RANDOM) else {
+fn explore_random<W: Write>(rt: &HostRuntime, to: &mut W, path: &str) -> Result<(), ExploreFault> {
+    let Ok(text) = fs::read(rt, path) else {
         return Err(ExploreFault::Lab(LabFault::Read));
     };
     let mut parts = text.split(|byte| *byte == b'%');
@@ -445,8 +460,13 @@ fn try_all<W: Write + Drop>(rt: &HostRuntime, to: &mut W) -> Result<(), ExploreF
     }
     explore_json(rt, to, AS_JSON)?;
     explore_budgets(rt, to)?;
-    ask_all(rt, to)?;
-    explore_random(rt, to)
+    for &(script, questions) in ASKED {
+        ask_all(rt, to, script, questions)?;
+    }
+    for &path in RANDOM {
+        explore_random(rt, to, path)?;
+    }
+    Ok(())
 }
 
 /// Explores all scripts and random ones, and asks all questions. A fault is written where the rest

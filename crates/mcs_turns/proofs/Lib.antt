@@ -2,3 +2,4 @@ pub mod RunLaws
 pub mod OneTurn
 pub mod Among
 pub mod Choices
+pub mod Settling

@@ -13,7 +13,7 @@ use Rattle.mcs_book.specs.Threads.{prio_of}
 use Rattle.mcs_book.specs.Statuses.{may_enter}
 use Rattle.mcs_book.proofs.Threads.EntersLaws.{enters-made}
 use Rattle.mcs_turns.specs.declared.position.Pick.{Pick}
-use Rattle.mcs_turns.specs.Turns.{User, Going, IsBest, IsPickOf, ArePicks, IsTurn, AreApart, due, entered}
+use Rattle.mcs_turns.specs.Turns.{User, Going, IsBest, IsPickOf, ArePicks, IsTurn, AreApart, due, entered, given}
 
 -- two elements in one place are one
 pub one-at : {A : Type 0} (xs : List A) (i : ℕ) (x y : A) → slice_get xs i ≡ Some x → slice_get xs i ≡ Some y → x ≡ y
@@ -73,7 +73,7 @@ one-turn users core k g h i apart a b =
     let entry : a.entry ≡ b.entry = one-at b.user.entries k.number a.entry b.entry (subst (λ (u : User). slice_get u.entries k.number ≡ Some a.entry) user a.is_entry) b.is_entry in
     let picks : a.picks ≡ b.picks = one-picks users g a.picks b.picks apart a.are_picks b.are_picks in
     a.after
-    ∙ ap (λ (ks : List (Option Pick)). entered ks a.user (record { core = core; thread = a.user.thread; entry = a.entry }) k g) picks
-    ∙ ap (λ (u : User). entered b.picks u (record { core = core; thread = u.thread; entry = a.entry }) k g) user
-    ∙ ap (λ (e : Entry). entered b.picks b.user (record { core = core; thread = b.user.thread; entry = e }) k g) entry
+    ∙ ap (λ (ks : List (Option Pick)). entered users ks a.user (record { core = core; thread = a.user.thread; entry = given g a.user k a.entry }) k g) picks
+    ∙ ap (λ (u : User). entered users b.picks u (record { core = core; thread = u.thread; entry = given g u k a.entry }) k g) user
+    ∙ ap (λ (e : Entry). entered users b.picks b.user (record { core = core; thread = b.user.thread; entry = given g b.user k e }) k g) entry
     ∙ sym b.after

@@ -1,11 +1,16 @@
 -- What holds of every run, by one turn after another.
-use Rattle.std.specs.Prelude.{ℕ, zero, suc, ◌≡◌, ◌+◌, map, length, List, [], ◌∷◌, Option}
+use Rattle.std.specs.Prelude.{ℕ, zero, suc, ◌≡◌, ◌+◌, map, length, List, [], ◌∷◌, Option, None}
 use Rattle.std.proofs.Common.{refl, ap, sym, ◌∙◌, subst}
 use Rattle.mcs_book.specs.Boots.{Boot, IsFaultless}
 use Rattle.mcs_book.specs.History.{IsLegal}
 use Rattle.mcs_turns.specs.declared.position.Pick.{Pick}
-use Rattle.mcs_turns.specs.Due.{begun, stale_after, none_stale}
-use Rattle.mcs_turns.specs.Turns.{User, Going, put_at, AreInRange, IsRun}
+use Rattle.mcs_turns.specs.declared.position.Position.{Position}
+use Rattle.mcs_turns.specs.declared.reached.Reached.{Reached}
+use Rattle.mcs_turns.specs.Due.{stale_after, none_stale}
+use Rattle.mcs_turns.specs.Turns.{User, Going, put_at, all_told, behind, entered, given, outcome, saved_at, started, AreInRange, IsRun}
+use Rattle.mcs_turns.specs.Mail.{reached_from}
+use Rattle.mcs_types.specs.declared.entry.Step.{Step}
+use Rattle.mcs_turns.proofs.Settling.{filled-range}
 
 pub run-legal : (users : List User) (boot : Boot) → IsFaultless boot → AreInRange users → (n : ℕ) (g : Going) → IsRun users boot n g → IsLegal g.book
 run-legal users boot whole range zero g run = subst (λ (h : Going). IsLegal h.book) (sym run) (record { boot = whole; lines = tt })
@@ -13,7 +18,7 @@ run-legal users boot whole range (suc n) h (g, (run, f)) =
     let before : IsLegal g.book = run-legal users boot whole range n g run in
     subst (λ (k : Going). IsLegal k.book) (sym f.turn.after) (record {
       boot = before.boot;
-      lines = (record { enters = f.turn.enters; in_range = range f.pick.user f.pick.number f.turn.user f.turn.entry f.turn.is_user f.turn.is_entry; answer = refl; records = refl }, before.lines);
+      lines = (record { enters = f.turn.enters; in_range = filled-range f.turn.user.fills f.pick.number (saved_at g f.pick.user) f.turn.entry (range f.pick.user f.pick.number f.turn.user f.turn.entry f.turn.is_user f.turn.is_entry); answer = refl; records = refl }, before.lines);
     })
 
 length-put : {A : Type 0} (i : ℕ) (x : A) (ys : List A) → length (put_at i x ys) ≡ length ys
@@ -30,9 +35,18 @@ length-none : (n : ℕ) → length (none_stale n) ≡ n
 length-none zero = refl
 length-none (suc n) = ap (λ m. suc m) (length-none n)
 
-length-map : (users : List User) → length (map (λ (u : User). begun) users) ≡ length users
+length-map : (users : List User) → length (map started users) ≡ length users
 length-map [] = refl
 length-map (u ∷ us) = ap (λ n. suc n) (length-map us)
+
+length-told : (rs : List Reached) (own i : ℕ) (us : List User) (ps : List Position) → length (all_told rs own i us ps) ≡ length ps
+length-told rs own i us [] = refl
+length-told rs own i us (p ∷ ps) = ap (λ n. suc n) (length-told rs own (i + 1) us ps)
+
+long-entered : (users : List User) (picks : List (Option Pick)) (u : User) (s : Step) (k : Pick) (g : Going) → length (entered users picks u s k g).places ≡ length g.places
+long-entered users picks u s k g =
+    let there = behind u k.number (saved_at g k.user) (outcome g.book s).answer in
+    length-told (reached_from None (outcome g.book s).records) k.user 0 users (put_at k.user there g.places) ∙ length-put k.user there g.places
 
 -- how long the parts of a run are
 pub record IsLong (users : List User) (boot : Boot) (n : ℕ) (g : Going) : Type 0 where
@@ -48,6 +62,6 @@ run-long users boot (suc n) h (g, (run, f)) =
     subst (λ (k : Going). IsLong users boot (suc n) k) (sym f.turn.after) (record {
       kept = before.kept;
       lines = ap (λ m. suc m) before.lines;
-      places = length-put f.pick.user _ g.places ∙ before.places;
+      places = long-entered users f.turn.picks f.turn.user (record { core = f.core; thread = f.turn.user.thread; entry = given g f.turn.user f.pick f.turn.entry }) f.pick g ∙ before.places;
       stale = length-stale _ f.pick.user 0 f.turn.picks g.stale ∙ before.stale;
     })

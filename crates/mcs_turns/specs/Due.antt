@@ -5,6 +5,7 @@ use Rattle.mcs_types.specs.declared.entry.Answer.TheVariants as answer
 use Rattle.mcs_types.specs.declared.record.Status.{Status}
 use Rattle.mcs_types.specs.declared.record.Status.TheVariants as status
 use Rattle.mcs_turns.specs.declared.position.Position.{Position}
+use Rattle.mcs_turns.specs.Programs.{nothing_saved}
 use Rattle.mcs_turns.specs.declared.position.Pick.{Pick}
 
 -- the number of the entry that a user gives now: the last one again where its thread waited and was
@@ -15,12 +16,12 @@ due_by _ p = p.next
 
 -- before the first entry
 abbrev pub begun : Position
-begun = record { next = 0; waited = None }
+begun = record { next = 0; waited = None; saved = nothing_saved }
 
 -- after an entry that was let in with an answer
 abbrev pub moved_past : ℕ → Answer → Position
-moved_past number answer.Waits = record { next = number + 1; waited = Some number }
-moved_past number _ = record { next = number + 1; waited = None }
+moved_past number answer.Waits = record { next = number + 1; waited = Some number; saved = nothing_saved }
+moved_past number _ = record { next = number + 1; waited = None; saved = nothing_saved }
 
 -- whether two picks are one entry of one user
 abbrev pub is_same : Pick → Pick → Bool

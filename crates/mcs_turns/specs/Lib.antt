@@ -1,2 +1,5 @@
 pub mod Due
+pub mod Mail
+pub mod Programs
+pub mod Told
 pub mod Turns

@@ -1,10 +1,11 @@
 -- Runs of users: each turn enters what a core picks, or what it picked since its last line and
 -- whose user has not moved (own).
-use Rattle.std.specs.Prelude.{ℕ, zero, suc, ◌≡◌, ◌<◌, ◌+◌, ◌⊎◌, true, cond, nat_lt, map, length, List, [], ◌∷◌, Option, Some, None, slice_get}
+use Rattle.std.specs.Prelude.{ℕ, zero, suc, ◌≡◌, ◌==◌, ◌<◌, ◌+◌, ◌⊎◌, Bool, true, false, cond, nat_lt, map, length, List, [], ◌∷◌, Option, Some, None, slice_get, unwrap_or}
 use Rattle.std.specs.List.{Contains}
 use Rattle.mcs_types.specs.declared.id.ObjId.{ObjId}
 use Rattle.mcs_types.specs.declared.id.CoreId.{CoreId}
 use Rattle.mcs_types.specs.declared.entry.Answer.{Answer}
+use Rattle.mcs_types.specs.declared.entry.Answer.TheVariants as answer
 use Rattle.mcs_types.specs.declared.entry.Entry.{Entry}
 use Rattle.mcs_types.specs.declared.entry.Step.{Step}
 use Rattle.mcs_types.specs.Ids.{same}
@@ -18,14 +19,29 @@ use Rattle.mcs_book.specs.Statuses.{status_of, may_enter}
 use Rattle.mcs_book.specs.Table.{does}
 use Rattle.mcs_turns.specs.declared.position.Position.{Position}
 use Rattle.mcs_turns.specs.declared.position.Pick.{Pick}
+use Rattle.mcs_turns.specs.declared.program.Fill.{Fill}
+use Rattle.mcs_turns.specs.declared.program.Op.{Op}
+use Rattle.mcs_turns.specs.declared.program.Saved.{Saved}
+use Rattle.mcs_turns.specs.declared.program.Settled.{Settled}
+use Rattle.mcs_turns.specs.declared.reached.Reached.{Reached}
 use Rattle.mcs_turns.specs.Due.{due_by, begun, moved_past, stale_after, none_stale}
+use Rattle.mcs_turns.specs.Mail.{is_send, reached_from}
+use Rattle.mcs_turns.specs.Programs.{filled, goes_on, nothing_saved, starts}
 
--- a thread, its entries in the order in which it gives them, and the number of the entry with which
--- it goes on after the last; none where the last is its last
+-- a thread, its entries, the number of the entry with which a list goes on after the last (none
+-- where the last is its last), and its program with what it fills in: where it has none, the user
+-- gives its entries one after the other
 pub record User : Type 0 where
   pub thread : ObjId
   pub entries : List Entry
   pub again : Option ℕ
+  pub ops : List Op
+  pub fills : List Fill
+
+-- whether there is a program
+abbrev pub is_program : List Op → Bool
+is_program [] = false
+is_program (o ∷ os) = true
 
 -- how far a run is: its book, the position of each user, and the stale picks of each core
 pub record Going : Type 0 where
@@ -33,9 +49,19 @@ pub record Going : Type 0 where
   pub places : List Position
   pub stale : List (List Pick)
 
+-- the entry with which a user waits, if it was not told what came of it: a program that was told
+-- knows which it gives next, or that it stops
+abbrev pub waits_with : List Op → ℕ → Position → Option ℕ
+waits_with [] entries p = p.waited
+waits_with (o ∷ os) entries p = cond (nat_lt entries p.next) p.waited None
+
+-- the position of a user by which it gives its next entry
+abbrev pub current : User → Position → Position
+current u p = record p { waited = waits_with u.ops (length u.entries) p }
+
 -- the number of the entry that a user gives now
 abbrev pub due : Log → User → Position → ℕ
-due R u p = due_by (status_of R u.thread) p
+due R u p = due_by (status_of R u.thread) (current u p)
 
 -- the user of the number i has an entry left, and its thread may enter on the core
 pub record CanGive (users : List User) (g : Going) (core : CoreId) (i : ℕ) (u : User) (p : Position) : Type 0 where
@@ -85,15 +111,83 @@ abbrev pub again_by : Option ℕ → ℕ → ℕ → ℕ
 again_by None entries next = next
 again_by (Some first) entries next = cond (nat_lt next entries) next first
 
--- the position of a user after an entry that was let in with an answer
-abbrev pub behind : User → ℕ → Answer → Position
-behind u number a = record (moved_past number a) { next = again_by u.again (length u.entries) (number + 1) }
+-- where a program goes on from a position; where there is none, that position
+abbrev pub gone_on : Option Settled → User → Position → Position
+gone_on None u p = p
+gone_on (Some x) u p = record p { next = unwrap_or x.number (length u.entries); saved = x.saved }
+
+-- the first position of a user
+abbrev pub started : User → Position
+started u = gone_on (starts u.ops) u begun
+
+-- the position of a list after an entry that was let in with an answer
+abbrev pub listed_behind : User → ℕ → Saved → Answer → Position
+listed_behind u number s a = record (moved_past number a) { next = again_by u.again (length u.entries) (number + 1); saved = s }
+
+-- the position of a user whose entry waits: which entry its program gives next is not known yet
+abbrev pub waiting_behind : List Op → User → ℕ → Saved → Position
+waiting_behind [] u number s = listed_behind u number s answer.Waits
+waiting_behind (o ∷ os) u number s = record (moved_past number answer.Waits) { next = length u.entries + 1; saved = s }
+
+-- the position of a user after an entry that was let in with an answer: a program goes on by what
+-- it is told
+abbrev pub behind : User → ℕ → Saved → Answer → Position
+behind u number s answer.Waits = waiting_behind u.ops u number s
+behind u number s a = gone_on (goes_on u.ops number s a) u (listed_behind u number s a)
+
+-- whether the entry of a user with this number is Send
+abbrev pub is_send_at : User → ℕ → Bool
+is_send_at u number = elim (slice_get u.entries number) [ None ↦ false | Some e ↦ is_send e ]
+
+-- whether an entry that waited comes to this: that a thread goes on says so of Send alone
+abbrev pub comes_of : User → ℕ → Answer → Bool
+comes_of u number answer.Done = is_send_at u number
+comes_of u number a = true
+
+-- the position of a user whom something reached: where its entry waited, its program goes on by it
+abbrev pub told : User → Answer → Position → Position
+told u a p = elim p.waited [
+  | None ↦ p
+  | Some number ↦ cond (comes_of u number a) (gone_on (goes_on u.ops number p.saved a) u p) p
+]
+
+-- the position of a user after something that reached a thread
+abbrev pub told_if : User → Reached → Position → Position
+told_if u r p = cond (same u.thread r.thread) (told u r.answer p) p
+
+-- the position of a user after all that reached threads
+abbrev pub told_all : List Reached → User → Position → Position
+told_all [] u p = p
+told_all (r ∷ rs) u p = told_all rs u (told_if u r p)
+
+-- that of the user of the number i, but for the one that entered
+abbrev pub place_told : List Reached → ℕ → List User → ℕ → Position → Position
+place_told rs own users i p = cond (i == own) p (elim (slice_get users i) [ None ↦ p | Some u ↦ told_all rs u p ])
+
+-- those of all users from the number i on
+abbrev pub all_told : List Reached → ℕ → ℕ → List User → List Position → List Position
+all_told rs own i users [] = []
+all_told rs own i users (p ∷ ps) = place_told rs own users i p ∷ all_told rs own (i + 1) users ps
+
+-- the words that the user of a number keeps
+abbrev pub saved_at : Going → ℕ → Saved
+saved_at g i = elim (slice_get g.places i) [ None ↦ nothing_saved | Some p ↦ p.saved ]
+
+-- an entry of a user as it gives it now
+abbrev pub given : Going → User → Pick → Entry → Entry
+given g u k e = filled u.fills k.number (saved_at g k.user) e
+
+-- the positions after an entry of a user with this outcome
+abbrev pub places_after : List User → Outcome → User → Pick → Going → List Position
+places_after users o u k g =
+    all_told (reached_from None o.records) k.user 0 users
+    (put_at k.user (behind u k.number (saved_at g k.user) o.answer) g.places)
 
 -- how far a run is after an entry of a user on a core, where the cores had these picks
-abbrev pub entered : List (Option Pick) → User → Step → Pick → Going → Going
-entered picks u s k g = record {
+abbrev pub entered : List User → List (Option Pick) → User → Step → Pick → Going → Going
+entered users picks u s k g = record {
   book = record g.book { lines = line_for s (outcome g.book s) ∷ g.book.lines };
-  places = put_at k.user (behind u k.number (outcome g.book s).answer) g.places;
+  places = places_after users (outcome g.book s) u k g;
   stale = stale_after s.core.0 k.user 0 picks g.stale;
 }
 
@@ -107,13 +201,13 @@ pub record IsTurn (users : List User) (core : CoreId) (k : Pick) (g h : Going) :
   pub are_picks : ArePicks users g picks
   pub picked : (slice_get picks core.0 ≡ Some (Some k)) ⊎ IsStale g core k
   pub enters : may_enter (log_of g.book) core user.thread ≡ true
-  pub after : h ≡ entered picks user (record { core = core; thread = user.thread; entry = entry }) k g
+  pub after : h ≡ entered users picks user (record { core = core; thread = user.thread; entry = given g user k entry }) k g
 
 -- the beginning of a run
 abbrev pub beginning : List User → Boot → Going
 beginning users boot = record {
   book = record { boot = boot; lines = [] };
-  places = map (λ (u : User). begun) users;
+  places = map started users;
   stale = none_stale boot.cores;
 }
 

@@ -2,14 +2,16 @@
 ghost use Rattle.std.specs.Prelude.{◌≡◌, ◌+◌, ◌<◌, ◌^◌, nat_lt};
 ghost use Rattle.mcs_turns.specs.Due.{due_by, begun, moved_past, is_same, is_ahead};
 
+use crate::program::Saved;
 use mcs_types::{Answer, Status};
 
-/// How far a user is: the number of its next entry, from 0, and that of its last one where the
-/// answer to it was Waits.
+/// How far a user is: the number of its next entry, from 0, that of its last one where the answer
+/// to it was Waits, and the words that its program keeps.
 #[derive(Clone, Copy, Drop)]
 pub struct Position {
     pub next: usize,
     pub waited: Option<usize>,
+    pub saved: Saved,
 }
 
 /// An entry that a core picked: the number of the user, from 0, and that of the entry in the user's
@@ -28,6 +30,7 @@ impl Position {
         Position {
             next: 0,
             waited: None,
+            saved: Saved::none(),
         }
     }
 
@@ -59,8 +62,13 @@ impl Position {
             Answer::Waits => Position {
                 next,
                 waited: Some(number),
+                saved: Saved::none(),
             },
-            _ => Position { next, waited: None },
+            _ => Position {
+                next,
+                waited: None,
+                saved: Saved::none(),
+            },
         }
     }
 }

@@ -11,8 +11,10 @@ use Rattle.mcs_types.specs.declared.id.ObjId.{ObjId}
 use Rattle.mcs_types.specs.declared.entry.Entry.{Entry}
 use Rattle.mcs_types.specs.Ids.{same}
 use Rattle.mcs_types.proofs.Ids.{same-equal, same-self}
+use Rattle.mcs_turns.specs.declared.program.Fill.{Fill}
+use Rattle.mcs_turns.specs.declared.program.Op.{Op}
 use Rattle.mcs_turns.specs.Turns.{User, AreApart}
-use Rattle.mcs_users.specs.Users.{again_at, StandsBehind, AreInOrder, begun_with, with_more, with_entry}
+use Rattle.mcs_users.specs.Users.{again_at, program_at, StandsBehind, AreInOrder, begun_with, with_more, with_entry}
 
 -- what holds of all holds with an entry more
 all-with : (P : User → Type 0) (us : List User) (t : ObjId) (e : Entry) → ((u : User) → P u → P (with_more u e)) → P (begun_with t e) → AllByRecursion P us → AllByRecursion P (with_entry us t e)
@@ -88,18 +90,32 @@ apart (x ∷ xs) h (suc i) zero u v a b is =
     absurd cc
 apart (x ∷ xs) h (suc i) (suc j) u v a b is = ap (λ n. suc n) (apart xs h.1 i j u v a b is)
 
-all-again : (P : User → Type 0) (us : List User) (i : ℕ) (u : User) (n : Option ℕ) → ((v : User) → P v → P (record v { again = n })) → slice_get us i ≡ Some u → AllByRecursion P us → AllByRecursion P (set us i (record u { again = n }))
-all-again P [] i u n f at all = tt
-all-again P (x ∷ xs) zero u n f at all = let first : x ≡ u = search rules in (f u (subst P first all.0), all.1)
-all-again P (x ∷ xs) (suc i) u n f at all = (all.0, all-again P xs i u n f at all.1)
+-- what follows of the order of users follows of one with the same thread
+same-behind : (x u w : User) → u.thread ≡ w.thread → StandsBehind x u → StandsBehind x w
+same-behind x u w e p = record {
+  other = subst (λ (t : ObjId). same x.thread t ≡ false) e p.other;
+  serial = subst (λ (t : ObjId). x.thread.serial ≤ t.serial) e p.serial;
+}
 
--- the number of the entry with which a user goes on does not count
-pub order-again : (us : List User) (i : ℕ) (u : User) (n : Option ℕ) → slice_get us i ≡ Some u → AreInOrder us → AreInOrder (set us i (record u { again = n }))
-order-again [] i u n at h = tt
-order-again (x ∷ xs) zero u n at h =
+same-before : (u w v : User) → u.thread ≡ w.thread → StandsBehind u v → StandsBehind w v
+same-before u w v e p = record {
+  other = subst (λ (t : ObjId). same t v.thread ≡ false) e p.other;
+  serial = subst (λ (t : ObjId). t.serial ≤ v.thread.serial) e p.serial;
+}
+
+all-changed : (P : User → Type 0) (us : List User) (i : ℕ) (u w : User) → (P u → P w) → slice_get us i ≡ Some u → AllByRecursion P us → AllByRecursion P (set us i w)
+all-changed P [] i u w f at all = tt
+all-changed P (x ∷ xs) zero u w f at all = let first : x ≡ u = search rules in (f (subst P first all.0), all.1)
+all-changed P (x ∷ xs) (suc i) u w f at all = (all.0, all-changed P xs i u w f at all.1)
+
+-- what else a user has does not count
+pub order-changed : (us : List User) (i : ℕ) (u w : User) → u.thread ≡ w.thread → slice_get us i ≡ Some u → AreInOrder us → AreInOrder (set us i w)
+order-changed [] i u w e at h = tt
+order-changed (x ∷ xs) zero u w e at h =
     let first : x ≡ u = search rules in
-    (all-weaker (StandsBehind x) (StandsBehind (record u { again = n })) (λ v p. subst (λ (w : User). StandsBehind (record w { again = n }) v) first (record { other = p.other; serial = p.serial })) xs h.0, h.1)
-order-again (x ∷ xs) (suc i) u n at h = (all-again (StandsBehind x) xs i u n (λ v p. record { other = p.other; serial = p.serial }) at h.0, order-again xs i u n at h.1)
+    let thread : x.thread ≡ w.thread = ap (λ (y : User). y.thread) first ∙ e in
+    (all-weaker (StandsBehind x) (StandsBehind w) (λ v p. same-before x w v thread p) xs h.0, h.1)
+order-changed (x ∷ xs) (suc i) u w e at h = (all-changed (StandsBehind x) xs i u w (λ p. same-behind x u w e p) at h.0, order-changed xs i u w e at h.1)
 
 -- the user in a place that was found
 pub found-user : (p : User → Bool) (us : List User) (i : ℕ) → position p us ≡ Some i → (u : User) × (slice_get us i ≡ Some u)
@@ -123,8 +139,15 @@ pub order-repeat : (p : User → Bool) (us : List User) (i number : ℕ) → Are
 order-repeat p us i number h found = by (found-user p us i found).0 (found-user p us i found).1
   where
     either-way : (u : User) (b : Bool) → slice_get us i ≡ Some u → AreInOrder (cond b (set us i (record u { again = Some number })) us)
-    either-way u true at = order-again us i u (Some number) at h
+    either-way u true at = order-changed us i u (record u { again = Some number }) refl at h
     either-way u false at = h
 
     by : (u : User) → slice_get us i ≡ Some u → AreInOrder (again_at us i number)
     by u at = subst (λ o. AreInOrder (elim o [ None ↦ us | Some v ↦ cond (nat_lt number (length v.entries)) (set us i (record v { again = Some number })) us ])) (sym at) (either-way u (nat_lt number (length u.entries)) at)
+
+-- the list in a place that was found gets a program
+pub order-programmed : (p : User → Bool) (us : List User) (i : ℕ) (os : List Op) (fs : List Fill) → AreInOrder us → position p us ≡ Some i → AreInOrder (program_at us i os fs)
+order-programmed p us i os fs h found = by (found-user p us i found).0 (found-user p us i found).1
+  where
+    by : (u : User) → slice_get us i ≡ Some u → AreInOrder (program_at us i os fs)
+    by u at = subst (λ o. AreInOrder (elim o [ None ↦ us | Some v ↦ set us i (record v { ops = os; fills = fs }) ])) (sym at) (order-changed us i u (record u { ops = os; fills = fs }) refl at h)

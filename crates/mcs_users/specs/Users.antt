@@ -5,11 +5,13 @@ use Rattle.mcs_types.specs.declared.id.ObjId.{ObjId}
 use Rattle.mcs_types.specs.declared.entry.Entry.{Entry}
 use Rattle.mcs_types.specs.Ids.{same}
 use Rattle.mcs_types.specs.Changes.{changes_slots}
+use Rattle.mcs_turns.specs.declared.program.Fill.{Fill}
+use Rattle.mcs_turns.specs.declared.program.Op.{Op}
 use Rattle.mcs_turns.specs.Turns.{User}
 
 -- a thread with one entry
 abbrev pub begun_with : ObjId → Entry → User
-begun_with t e = record { thread = t; entries = e ∷ []; again = None }
+begun_with t e = record { thread = t; entries = e ∷ []; again = None; ops = []; fills = [] }
 
 -- a user with an entry more, at the end
 abbrev pub with_more : User → Entry → User
@@ -33,6 +35,14 @@ again_at us i n = elim (slice_get us i) [
 -- users of which that of a thread does
 abbrev pub with_again : List User → ObjId → ℕ → List User
 with_again us t n = elim (position (λ (u : User). same u.thread t) us) [ None ↦ us | Some i ↦ again_at us i n ]
+
+-- users of which the one in a place has this program
+abbrev pub program_at : List User → ℕ → List Op → List Fill → List User
+program_at us i os fs = elim (slice_get us i) [ None ↦ us | Some u ↦ set us i (record u { ops = os; fills = fs }) ]
+
+-- users of which that of a thread has it
+abbrev pub with_program : List User → ObjId → List Op → List Fill → List User
+with_program us t os fs = elim (position (λ (u : User). same u.thread t) us) [ None ↦ us | Some i ↦ program_at us i os fs ]
 
 -- whether it is the user of a thread, or one of a later thread
 abbrev pub is_place_for : ObjId → User → Bool

@@ -1,10 +1,13 @@
-//! The users of a script: the entries of each of some threads, and what a core picked of them.
+//! The users of a script: the entries and the program of each of some threads, where it is, and
+//! what a core picked of them.
 #![tactic(auto)]
 
 mod lists;
 mod picks;
+mod places;
 mod users;
 
 pub use lists::UserList;
 pub use picks::Picks;
+pub use places::{current, first_place, place_behind, place_told};
 pub use users::Users;

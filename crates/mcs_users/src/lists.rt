@@ -1,20 +1,24 @@
 //! A list of entries for each thread that has one, those of lower serials first.
 ghost use Rattle.std.specs.Prelude.{ℕ, ◌≡◌, ◌<◌, ◌≤◌, ◌∷◌, ◌++◌, [], true, false, IfOk, OnOk, OnErr, option_copied, position, slice_get, take, drop, set, length, Some};
 ghost use Rattle.mcs_types.specs.Ids.{same};
-ghost use Rattle.mcs_turns.specs.Turns.{User};
-ghost use Rattle.mcs_users.specs.Users.{again_at, begun_with, is_place_for, user_changes_slots, with_entry, with_more};
+ghost use Rattle.mcs_turns.specs.Turns.{User, is_program};
+ghost use Rattle.mcs_users.specs.Users.{again_at, begun_with, is_place_for, program_at, user_changes_slots, with_entry, with_more};
 
+use mcs_turns::{Fill, Op};
 use mcs_types::{Entry, ObjId, OutOfMemory};
 use std::alloc::Global;
 use std::marker::Model;
 
-/// A thread, its entries in the order in which it gives them, and the number of the entry, from 0,
-/// with which it goes on after the last; None where the last is its last.
+/// A thread, its entries, the number of the entry, from 0, with which a list goes on after the last
+/// (None where the last is its last), and its program with what it fills in. Without a program it
+/// gives its entries one after the other.
 #[derive(Drop)]
 pub struct UserList {
     pub thread: ObjId,
     pub entries: Vec<Entry>,
     pub again: Option<usize>,
+    pub ops: Vec<Op>,
+    pub fills: Vec<Fill>,
 }
 
 impl Model for UserList {
@@ -22,7 +26,13 @@ impl Model for UserList {
 
     ghost Value = { User };
 
-    ghost view = { λ l. record { thread = l.thread; entries = l.entries.items; again = l.again } };
+    ghost view = { λ l. record {
+      thread = l.thread;
+      entries = l.entries.items;
+      again = l.again;
+      ops = l.ops.items;
+      fills = l.fills.items;
+    } };
 }
 
 impl UserList {
@@ -36,6 +46,8 @@ impl UserList {
                 thread,
                 entries,
                 again: None,
+                ops: Vec::new(alloc),
+                fills: Vec::new(alloc),
             }),
             Err(_) => Err(OutOfMemory),
         }
@@ -46,6 +58,13 @@ impl UserList {
         ensures { option_copied result ≡ slice_get self.now.entries number }
     {
         self.entries.get(number)
+    }
+
+    /// Returns whether a program says which entry comes next.
+    pub fn has_program(&self) -> bool
+        ensures { result ≡ is_program self.now.ops }
+    {
+        !self.ops.is_empty()
     }
 
     /// Returns whether one of them may change capability slots.
@@ -189,5 +208,15 @@ impl Lists {
         }
         let list = &mut self.lists[place];
         list.again = Some(number);
+    }
+
+    /// Gives the list in a place a program, and what it fills in.
+    pub(crate) fn program_at(&mut self, place: usize, ops: Vec<Op>, fills: Vec<Fill>)
+        requires { place < length self.old }
+        ensures { self.new ≡ program_at self.old place ops.items fills.items }
+    {
+        let list = &mut self.lists[place];
+        list.ops = ops;
+        list.fills = fills;
     }
 }

@@ -2,9 +2,10 @@
 ghost use Rattle.std.specs.Prelude.{◌≡◌, [], OnOk, OnErr, option_copied, position, slice_get};
 ghost use Rattle.mcs_types.specs.Ids.{same};
 ghost use Rattle.mcs_turns.specs.Turns.{User, AreApart};
-ghost use Rattle.mcs_users.specs.Users.{change_slots, with_again, with_entry};
+ghost use Rattle.mcs_users.specs.Users.{change_slots, with_again, with_entry, with_program};
 
 use crate::lists::{Lists, UserList};
+use mcs_turns::{Fill, Op};
 use mcs_types::{Entry, ObjId, OutOfMemory};
 use std::alloc::Global;
 use std::marker::Model;
@@ -88,6 +89,16 @@ impl Users {
     {
         if let Some(place) = self.lists.find(thread) {
             self.lists.repeat_at(place, number);
+        }
+    }
+
+    /// Gives the user of a thread a program, and what it fills in. Nothing changes where the thread
+    /// has no user.
+    pub fn program(&mut self, thread: ObjId, ops: Vec<Op>, fills: Vec<Fill>)
+        ensures { self.new ≡ with_program self.old thread ops.items fills.items }
+    {
+        if let Some(place) = self.lists.find(thread) {
+            self.lists.program_at(place, ops, fills);
         }
     }
 }

@@ -22,6 +22,9 @@ syntax keyword mcsAskedState contained NotRunning NoContext WrongCore running re
 syntax keyword mcsAskedState contained nothing
 syntax keyword mcsQuestionWord contained idle live answer answer? some never before again and in
 
+syntax keyword mcsStatement contained let forever while repeat if else break continue stop and not
+syntax keyword mcsStatement contained has bit
+
 " of two that match at one place Vim takes the last, so names come first
 syntax match mcsName contained /\S\@1<!\a[0-9A-Za-z._-]*\S\@!/
 syntax match mcsNumber contained /\S\@1<!\%(0\|[1-9]\d*\)\S\@!/
@@ -33,6 +36,10 @@ syntax match mcsNone contained /\S\@1<!-\S\@!/
 syntax match mcsAny contained /\S\@1<!\*\*\=\S\@!/
 syntax match mcsRange contained /\S\@1<!\d\+\.\.=\=\d\+\S\@!/
 syntax match mcsSign contained /\S\@1<![=+]\S\@!/
+syntax match mcsValue contained /\S\@1<!\$[0-9A-Za-z._-]\+\S\@!/
+syntax match mcsProgramSign contained /\S\@1<!\%([{}]\|==\|!=\|>=\|<\|+=\|-=\|=\)\S\@!/
+syntax match mcsProgramUser contained /\%(^#! \)\@<=\a[0-9A-Za-z._-]*:/
+syntax match mcsProgramNote contained /\s\@1<=#.*$/
 syntax match mcsMark contained /^#[@?!]/
 syntax cluster mcsOperand contains=mcsNumber,mcsObject,mcsMessage,mcsRights,mcsNone
 
@@ -41,12 +48,18 @@ syntax match mcsFault /^#[!@].*$/
 syntax match mcsNameLine /^#@ [ctenrs][1-9]\d* \a[0-9A-Za-z._-]*$/ contains=mcsMark,mcsName,mcsObject
 syntax match mcsExpectation /^#? .*$/ contains=mcsMark,mcsAsked,mcsAskedState,@mcsOperand
 syntax match mcsQuestion /^#! .*$/ contains=mcsMark,mcsQuestionWord,mcsAnswerWord,mcsRecordWord,mcsState,mcsName,@mcsOperand,mcsAny,mcsRange,mcsSign
+syntax match mcsProgram /^#! \a[0-9A-Za-z._-]*: .*$/ contains=mcsMark,mcsProgramUser,mcsStatement,mcsEntry,mcsKind,mcsAnswerWord,mcsName,@mcsOperand,mcsValue,mcsProgramSign,mcsProgramNote
 syntax match mcsAnswer /^= .*$/ contains=mcsSign,mcsAnswerWord,mcsNumber
 syntax match mcsRecord /^+ .*$/ contains=mcsSign,mcsRecordWord,mcsState,@mcsOperand
 syntax match mcsBootLine /^\%(cores\|cnode\|endpoint\|notification\|reply\|context\|thread\|slot\|tie\)\S\@!.*$/ contains=mcsBoot,mcsMode,@mcsOperand
 syntax match mcsStep /^\%(user\|\d\+\) t\d\+ .*$/ contains=mcsUser,mcsEntry,mcsKind,@mcsOperand
 
 highlight default link mcsComment Comment
+highlight default link mcsProgramNote Comment
+highlight default link mcsStatement Statement
+highlight default link mcsProgramUser Identifier
+highlight default link mcsProgramSign Operator
+highlight default link mcsValue Identifier
 highlight default link mcsFault Error
 highlight default link mcsMark PreProc
 highlight default link mcsBoot Statement

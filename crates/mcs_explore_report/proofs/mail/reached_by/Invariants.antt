@@ -1,5 +1,5 @@
 use Rattle.std.proofs.Common.{◌≡◌, ◌++◌, None, drop}
-use Rattle.mcs_explore_report.specs.Mail.{reached_from}
+use Rattle.mcs_turns.specs.Mail.{reached_from}
 use Rattle.mcs_explore_report.proofs.mail.reached_by.Given as goal
 
 abbrev pub invariant-loop-i : goal.invariant-loop-i

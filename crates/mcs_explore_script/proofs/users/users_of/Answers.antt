@@ -1,13 +1,10 @@
-use Rattle.std.proofs.Common.{◌≡◌, ◌∷◌, [], List, length, refl, sym, ap, ◌∙◌, arith, rules}
+use Rattle.std.proofs.Common.{◌≡◌, ◌∷◌, [], List, length, sym, ap, ◌∙◌, arith, rules}
 use Rattle.std.specs.Vec.Iter.{into_iter_items}
 use Rattle.mcs_text.specs.declared.steps.UserEntry.{UserEntry}
 use Rattle.mcs_turns.specs.Turns.{User}
 use Rattle.mcs_explore_script.specs.UserLists.{with_entries}
+use Rattle.mcs_explore_script.proofs.ProgramLines.{none-left}
 use Rattle.mcs_explore_script.proofs.users.users_of.Goals as goal
-
-nothing-left : {X : Type 0} (l : List X) → length l ≡ 0 → l ≡ []
-nothing-left [] h = refl
-nothing-left (x ∷ xs) h = absurd (omega arith)
 
 pub loop-said-init : goal.loop-said-init
 loop-said-init c =
@@ -31,5 +28,5 @@ pub returns : goal.returns
 returns c =
     let at = c.loop-said in
     let none = c.in-None.ensures.steps in
-    let empty : into_iter_items at.said-iterator ≡ [] = nothing-left _ (sym at.invariant.count ∙ none.0) in
+    let empty : into_iter_items at.said-iterator ≡ [] = none-left _ (sym at.invariant.count ∙ none.0) in
     sym (ap (with_entries at.users) empty) ∙ at.invariant.users

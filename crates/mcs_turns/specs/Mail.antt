@@ -9,7 +9,7 @@ use Rattle.mcs_types.specs.declared.record.Mode.TheVariants as mode
 use Rattle.mcs_types.specs.declared.record.Rec.{Rec}
 use Rattle.mcs_types.specs.declared.record.Rec.TheVariants as rec
 use Rattle.mcs_book.specs.History.{Book, Line}
-use Rattle.mcs_explore_report.specs.declared.mail.Reached.{Reached}
+use Rattle.mcs_turns.specs.declared.reached.Reached.{Reached}
 
 -- what a taker gets of the message that a line sent last, with a record more
 abbrev pub got_with : Option Answer → Rec → Option Answer

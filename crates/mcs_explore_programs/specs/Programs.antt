@@ -1,0 +1,51 @@
+-- What holds of the lines of each program that was read (own).
+use Rattle.std.specs.Prelude.{ℕ, ◌<◌, ◌≤◌, List, length, min}
+use Rattle.std.specs.List.{All}
+use Rattle.mcs_turns.specs.declared.program.Fill.{Fill}
+use Rattle.mcs_turns.specs.declared.program.Op.{Op}
+use Rattle.mcs_turns.specs.declared.program.Op.TheVariants as op
+use Rattle.mcs_explore_programs.specs.declared.code.ProgramEntry.{ProgramEntry}
+use Rattle.mcs_explore_programs.specs.declared.program.Program.{Program}
+
+-- the lines of a program, its entries, and what is filled into their messages
+pub record Lines : Type 0 where
+  pub ops : List Op
+  pub entries : List ProgramEntry
+  pub fills : List Fill
+
+-- a line that gives an entry gives one of so many
+abbrev pub GivesOneOf : ℕ → Op → Type 0
+GivesOneOf n (op.Give number) = number < n
+GivesOneOf n o = Unit {0}
+
+-- a line that goes on elsewhere goes on at one of so many lines, or behind them
+abbrev pub GoesWithin : ℕ → Op → Type 0
+GoesWithin n (op.Unless test to) = to ≤ n
+GoesWithin n (op.Jump to) = to ≤ n
+GoesWithin n o = Unit {0}
+
+-- what is filled in is of one of so many entries
+abbrev pub IsOfOneOf : ℕ → Fill → Type 0
+IsOfOneOf n f = f.number < n
+
+-- all that lines say of entries they say of some that are there
+pub record NameEntries (l : Lines) : Type 0 where
+  pub gives : All (GivesOneOf (length l.entries)) l.ops
+  pub fills : All (IsOfOneOf (length l.entries)) l.fills
+
+-- the lines of a program: there is an entry, each line that gives one gives one that is there, and
+-- goes on within the lines or behind them
+pub record AreLines (l : Lines) : Type 0 where
+  pub some : 0 < length l.entries
+  pub names : NameEntries l
+  pub goes : All (GoesWithin (length l.ops)) l.ops
+
+-- a line that goes on behind so many lines at the furthest
+abbrev pub within : ℕ → Op → Op
+within n (op.Unless test to) = op.Unless test (min to n)
+within n (op.Jump to) = op.Jump (min to n)
+within n o = o
+
+-- those of a program are
+abbrev pub IsProgram : Program → Type 0
+IsProgram p = AreLines (record { ops = p.ops.items; entries = p.entries.items; fills = p.fills.items })

@@ -1,0 +1,104 @@
+//! The words with which statements begin.
+use mcs_lab_forms::{FORMS, Fields, form_of};
+use mcs_text::find_boot_key;
+
+/// The words with which statements begin that are no entries, as a fault lists them.
+pub const KEYWORDS: &str = "let, forever, while, repeat, if, }, break, continue, stop";
+
+/// A word with which a statement begins that is no entry.
+#[derive(Clone, Copy)]
+pub enum Keyword {
+    Let,
+    Forever,
+    While,
+    Repeat,
+    If,
+    Close,
+    Break,
+    Continue,
+    Stop,
+}
+
+impl Keyword {
+    /// The keyword that a word is.
+    pub fn of(word: &[u8]) -> Option<Keyword> {
+        match word {
+            b"let" => Some(Keyword::Let),
+            b"forever" => Some(Keyword::Forever),
+            b"while" => Some(Keyword::While),
+            b"repeat" => Some(Keyword::Repeat),
+            b"if" => Some(Keyword::If),
+            b"}" => Some(Keyword::Close),
+            b"break" => Some(Keyword::Break),
+            b"continue" => Some(Keyword::Continue),
+            b"stop" => Some(Keyword::Stop),
+            _ => None,
+        }
+    }
+}
+
+/// How a word that is kept changes.
+#[derive(Clone, Copy)]
+pub enum Change {
+    Set,
+    Add,
+    Subtract,
+}
+
+impl Change {
+    /// The change that a sign says.
+    pub fn of(word: &[u8]) -> Option<Change> {
+        match word {
+            b"=" => Some(Change::Set),
+            b"+=" => Some(Change::Add),
+            b"-=" => Some(Change::Subtract),
+            _ => None,
+        }
+    }
+}
+
+/// The form of the entries that a word begins; None where it begins none.
+fn entry_form(word: &[u8]) -> Option<Fields<'static>> {
+    if matches!(word, b"=" | b"+") || find_boot_key(word).is_some() {
+        return None;
+    }
+    form_of(None, word)
+}
+
+/// Whether a word begins an entry.
+pub fn is_entry(word: &[u8]) -> bool {
+    entry_form(word).is_some()
+}
+
+/// Where the label stands among the words of an entry that a word begins; None where it begins
+/// none with a message.
+pub fn label_place(word: &[u8]) -> Option<usize> {
+    let mut fields = entry_form(word)?;
+    for place in 1..=FORMS.len() {
+        if matches!(fields.next_field()?.name, b"label") {
+            return Some(place);
+        }
+    }
+    None
+}
+
+/// Whether a name may have this byte.
+fn is_of_name(byte: u8) -> bool {
+    byte.is_ascii_alphanumeric() || byte == b'_' || byte == b'-' || byte == b'.'
+}
+
+/// Whether a word may be a name: it begins with a letter.
+pub fn is_name(word: &[u8]) -> bool {
+    match word {
+        [first, rest @ ..] => {
+            first.is_ascii_alphabetic() && rest.iter().all(|byte| is_of_name(*byte))
+        }
+        [] => false,
+    }
+}
+
+/// Whether a word may be the name of one that is kept: it says nothing else.
+pub fn is_kept_name(word: &[u8]) -> bool {
+    let is_taken = matches!(word, b"badge" | b"word" | b"label" | b"else");
+    is_name(word) && !is_taken && !is_entry(word) && Keyword::of(word).is_none()
+}

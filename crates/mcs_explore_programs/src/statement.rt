@@ -1,0 +1,153 @@
+//! The words of a statement, and the numbers that they write.
+ghost use Rattle.std.specs.Prelude.{◌≤◌};
+
+use crate::fault::ProgramFault;
+use crate::naming::Word;
+use std::alloc::{AllocError, Global};
+
+/// A statement whose words are taken one by one.
+#[derive(Drop)]
+pub struct Statement<'a> {
+    alloc: Global,
+    words: Vec<&'a [u8]>,
+    taken: usize,
+}
+
+/// Whether a byte stands between two words.
+fn is_blank(byte: u8) -> bool {
+    byte == b' ' || byte == b'\t'
+}
+
+/// The words of a text, as far as a comment: a word that begins with `#`.
+fn words_of<'a>(alloc: Global, text: &'a [u8]) -> Result<Vec<&'a [u8]>, AllocError> {
+    let mut words = Vec::new(alloc);
+    for word in text.split(|byte| is_blank(*byte)) {
+        match word {
+            [] => {}
+            [b'#', ..] => break,
+            word => words.push(word)?,
+        }
+    }
+    Ok(words)
+}
+
+impl<'a> Statement<'a> {
+    /// The statement of a text, before its first word.
+    pub fn new(alloc: Global, text: &'a [u8]) -> Result<Statement<'a>, AllocError> {
+        Ok(Statement {
+            alloc,
+            words: words_of(alloc, text)?,
+            taken: 0,
+        })
+    }
+
+    /// How many words are left.
+    pub fn left(&self) -> usize {
+        self.words.len().saturating_sub(self.taken)
+    }
+
+    /// The next word, which is left, if there is one.
+    pub fn peek(&self) -> Option<&'a [u8]> {
+        self.words.get(self.taken).copied()
+    }
+
+    /// Takes the next word, if there is one.
+    pub fn next_word(&mut self) -> Option<&'a [u8]> {
+        let word = self.peek()?;
+        self.taken = self.taken.saturating_add(1);
+        Some(word)
+    }
+
+    /// Takes the next word if it is this one.
+    pub fn take(&mut self, word: &[u8]) -> bool {
+        let is_next = self.peek().is_some_and(|next| next == word);
+        if is_next {
+            self.taken = self.taken.saturating_add(1);
+        }
+        is_next
+    }
+
+    /// Takes the next word. Missing where none is left.
+    pub fn need(&mut self, wanted: &'static str) -> Result<&'a [u8], ProgramFault> {
+        match self.next_word() {
+            Some(word) => Ok(word),
+            None => Err(ProgramFault::Missing { wanted }),
+        }
+    }
+
+    /// Takes this word. Missing where none is left, Not for another.
+    pub fn expect(&mut self, wanted: &'static str) -> Result<(), ProgramFault> {
+        let word = self.need(wanted)?;
+        if word == wanted.as_bytes() {
+            return Ok(());
+        }
+        Err(self.not(word, wanted))
+    }
+
+    /// Fails with TooMany where a word is left.
+    pub fn end(&self) -> Result<(), ProgramFault> {
+        match self.peek() {
+            None => Ok(()),
+            Some(word) => Err(ProgramFault::TooMany {
+                word: Word::new(self.alloc, word)?,
+            }),
+        }
+    }
+
+    /// Takes `{`, which ends a line.
+    pub fn open(&mut self) -> Result<(), ProgramFault> {
+        self.expect("{")?;
+        self.end()
+    }
+
+    /// The fault of a word that is not what is wanted.
+    pub fn not(&self, word: &[u8], wanted: &'static str) -> ProgramFault {
+        match Word::new(self.alloc, word) {
+            Ok(word) => ProgramFault::Not { word, wanted },
+            Err(_) => ProgramFault::OutOfMemory,
+        }
+    }
+
+    /// Takes a number, from one to another. Not where the next word is another.
+    pub fn number(
+        &mut self,
+        least: u64,
+        most: u64,
+        wanted: &'static str,
+    ) -> Result<u64, ProgramFault> {
+        let word = self.need(wanted)?;
+        match number_of(word) {
+            Some(number) if least <= number && number <= most => Ok(number),
+            _ => Err(self.not(word, wanted)),
+        }
+    }
+}
+
+/// The number that digits of a base write; None where it is 2^64 or more.
+fn digits(word: &[u8], base: u32) -> Option<u64>
+    requires least { 2 ≤ base }
+    requires most { base ≤ 36 }
+{
+    if word.is_empty() {
+        return None;
+    }
+    let mut number: u64 = 0;
+    for byte in word {
+        let digit = char::from(*byte).to_digit(base)?;
+        number = number.checked_mul(base as u64)?.checked_add(digit as u64)?;
+    }
+    Some(number)
+}
+
+/// The number that decimal digits write; None where it is 2^64 or more.
+pub fn decimal(word: &[u8]) -> Option<u64> {
+    digits(word, 10)
+}
+
+/// The number that a word writes, decimal or after `0x`.
+pub fn number_of(word: &[u8]) -> Option<u64> {
+    match word {
+        [b'0', b'x', hex @ ..] => digits(hex, 16),
+        word => digits(word, 10),
+    }
+}

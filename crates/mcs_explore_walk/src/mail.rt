@@ -1,0 +1,207 @@
+//! What a line brings to threads whose entries wait, and where their users go on.
+ghost use Rattle.std.specs.Prelude.{◌≡◌, ◌<◌, IfSome, None, length, slice_get};
+ghost use Rattle.mcs_types.specs.declared.entry.Answer.TheVariants as answer;
+ghost use Rattle.mcs_packing.specs.Packing.{IsMessageAt, content_at};
+ghost use Rattle.mcs_book.specs.History.{line_of_number};
+ghost use Rattle.mcs_turns.specs.Mail.{got_with, reached_from, reaching, taken};
+ghost use Rattle.mcs_turns.specs.Turns.{all_told, place_told, told_all, told_if};
+ghost use Rattle.mcs_explore_walk.specs.Mail.{told_by};
+
+use mcs_book::Line;
+use mcs_kernel::Kernel;
+use mcs_packing::{KeptRecord, Packed, thread_id};
+use mcs_queues::Lines;
+use mcs_turns::{Position, Told};
+use mcs_types::{Badge, Mode, ObjId, Rec};
+use mcs_users::{UserList, place_told};
+use std::marker::Model;
+
+/// What reaches a thread, where it is kept. Clauses see what `Reached` has.
+#[derive(Drop)]
+pub struct Reaches<'a> {
+    pub thread: ObjId,
+    pub told: Told<'a>,
+}
+
+impl<'a> Model for Reaches<'a> {
+    ghost use Rattle.mcs_turns.specs.declared.reached.Reached.{Reached};
+
+    ghost Value = { Reached };
+
+    ghost view = { λ r. record { thread = r.thread; answer = r.told } };
+}
+
+/// The words of a message that is at a place.
+fn words_at(words: &[u64], at: u32, len: u8) -> &[u64]
+    requires { IsMessageAt words.now at len }
+    ensures { result.now ≡ (content_at words.now at len).words }
+{
+    let start = at as usize + 1;
+    &words[start..start + len as usize]
+}
+
+/// That the message at a place came.
+fn got_at<'a>(badge: Badge, words: &'a [u64], at: u32, len: u8) -> Told<'a>
+    requires { IsMessageAt words.now at len }
+    ensures { result ≡ answer.Got badge (content_at words.entry.now at len) }
+{
+    Told::got(badge, words[at as usize], words_at(words, at, len))
+}
+
+/// What a taker gets of the message that a line sent last, with a record more.
+fn got_with<'a>(got: Option<Told<'a>>, fact: &KeptRecord<'a>) -> Option<Told<'a>>
+    ensures { result ≡ got_with got.entry fact.now }
+{
+    match fact.packed {
+        Packed::Sent { len, at, .. } => {
+            let badge = Badge(fact.words[*at as usize + 1 + *len as usize]);
+            Some(got_at(badge, fact.words, *at, *len))
+        }
+        Packed::Wide { at } => match &fact.wide[*at as usize] {
+            Rec::Sent { badge, message, .. } => {
+                Some(Told::got(*badge, message.label(), message.words()))
+            }
+            _ => got,
+        },
+        _ => got,
+    }
+}
+
+/// What reaches a thread that takes this, if the line sent it.
+fn taken<'a>(thread: ObjId, got: &Option<Told<'a>>) -> Option<Reaches<'a>>
+    ensures { result ≡ taken thread got.now }
+{
+    match got {
+        Some(told) => Some(Reaches {
+            thread,
+            told: told.again(),
+        }),
+        None => None,
+    }
+}
+
+/// What reaches a thread by a record that is kept whole.
+fn reaching_whole<'a>(got: &Option<Told<'a>>, fact: &'a Rec) -> Option<Reaches<'a>>
+    ensures { result ≡ reaching got.now fact.entry.now }
+{
+    match fact {
+        Rec::Took { thread, .. } => taken(*thread, got),
+        Rec::Paid {
+            caller,
+            message,
+            ..
+        } => Some(Reaches {
+            thread: *caller,
+            told: Told::got(Badge(0), message.label(), message.words()),
+        }),
+        Rec::Heard { thread, word, .. } => Some(Reaches {
+            thread: *thread,
+            told: Told::heard(*word),
+        }),
+        Rec::Turns {
+            thread,
+            mode: Mode::Running,
+        } => Some(Reaches {
+            thread: *thread,
+            told: Told::done(),
+        }),
+        _ => None,
+    }
+}
+
+/// What reaches a thread by a record, where a taker gets this of what the line sent last.
+fn reaching<'a>(got: &Option<Told<'a>>, fact: &KeptRecord<'a>) -> Option<Reaches<'a>>
+    ensures { result ≡ reaching got.now fact.now }
+{
+    match fact.packed {
+        Packed::Took { thread, .. } => taken(thread_id(*thread), got),
+        Packed::Paid {
+            len,
+            caller,
+            at,
+            ..
+        } => Some(Reaches {
+            thread: thread_id(*caller),
+            told: got_at(Badge(0), fact.words, *at, *len),
+        }),
+        Packed::Heard { thread, at, .. } => Some(Reaches {
+            thread: thread_id(*thread),
+            told: Told::heard(fact.words[*at as usize]),
+        }),
+        Packed::Turns {
+            mode: Mode::Running,
+            thread,
+        } => Some(Reaches {
+            thread: thread_id(*thread),
+            told: Told::done(),
+        }),
+        Packed::Wide { at } => reaching_whole(got, &fact.wide[*at as usize]),
+        _ => None,
+    }
+}
+
+/// The position of a user whom this reached, if it reached its thread.
+fn told_by(user: &UserList, reached: Option<Reaches<'_>>, place: Position) -> Position
+    ensures { result ≡ told_by user.now reached.entry place }
+{
+    let Some(reached) = reached else {
+        return place;
+    };
+    if user.thread.is_same(reached.thread) {
+        place_told(user, &reached.told, place)
+    } else {
+        place
+    }
+}
+
+/// The position of a user after a line of another one.
+#[tactic(auto, using(crate::proofs::Telling::told_nothing))]
+fn told_in(user: &UserList, line: &Line<'_>, place: Position) -> Position
+    ensures { result ≡ told_all (reached_from None line.now.records) user.now place }
+{
+    if !user.has_program() {
+        return place;
+    }
+    let mut got = None;
+    let mut now = place;
+    for i in 0..line.record_count() {
+        let Some(fact) = line.kept_record(i) else {
+            unreachable!();
+        };
+        got = got_with(got, &fact);
+        now = told_by(user, reaching(&got, &fact), now);
+    }
+    now
+}
+
+/// The position of the user in a place after a line of the user of this number.
+fn told_at(line: &Line<'_>, own: usize, users: &[UserList], place: usize, now: Position) -> Position
+    ensures { result ≡ place_told (reached_from None line.now.records) own users.now place now }
+{
+    if place == own {
+        return now;
+    }
+    match users.get(place) {
+        Some(user) => told_in(user, line, now),
+        None => now,
+    }
+}
+
+/// Moves all users but the one that entered to where they are after its line.
+pub fn tell_all(line: &Line<'_>, own: usize, users: &[UserList], places: &mut Vec<Position>)
+    ensures { places.new.items
+        ≡ all_told (reached_from None line.now.records) own 0 users.now places.old.items }
+{
+    for place in 0..places.len() {
+        let now = places[place];
+        places[place] = told_at(line, own, users, place, now);
+    }
+}
+
+/// The newest line of a kernel's book.
+pub fn newest<L: Lines>(kernel: &Kernel<L>) -> Option<Line<'_>>
+    ensures { result ≡ line_of_number kernel.now (length kernel.now.lines) }
+{
+    let book = kernel.book();
+    book.line(book.lines().saturating_sub(1))
+}

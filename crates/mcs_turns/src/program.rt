@@ -1,0 +1,391 @@
+//! What a user does between its entries: a program goes on by what its last entry was told (own).
+ghost use Rattle.std.specs.Prelude.{◌≡◌, ◌<◌, ◌+◌, ◌^◌, length, position, slice_get, IfOk};
+ghost use Rattle.mcs_types.specs.Limits.{label_bits};
+ghost use Rattle.mcs_turns.specs.Programs.{filled, filled_label, filled_message, filled_words, gives, goes_on, holds, nothing_saved, op_given, op_next, op_saved, read, saved_in, settled, starts, with_saved, label_by, words_by};
+
+use crate::told::Told;
+use mcs_types::{Entry, LABEL_BITS, Message, OutOfMemory};
+use std::alloc::Global;
+
+/// The names of the four words that a user keeps.
+#[derive(Clone, Copy, Drop)]
+pub enum Slot {
+    A,
+    B,
+    C,
+    D,
+}
+
+/// The words that a user keeps.
+#[derive(Clone, Copy, Drop)]
+pub struct Saved {
+    pub a: u64,
+    pub b: u64,
+    pub c: u64,
+    pub d: u64,
+}
+
+/// A number: one that is written, one of what was told last (0 where it has none), or a word that
+/// is kept.
+#[derive(Clone, Copy, Drop)]
+pub enum Source {
+    Number(u64),
+    Badge,
+    Label,
+    Word(u8),
+    Saved(Slot),
+}
+
+/// What may hold where something was told.
+#[derive(Clone, Copy, Drop)]
+pub enum Test {
+    Got,
+    Heard,
+    Empty,
+    Done,
+    Refused,
+    RefusedBy(u8),
+    Is(Source, Source),
+    IsLess(Source, Source),
+    Has(Source, Source),
+}
+
+/// A line of a program. The way through the lines ends at one that gives an entry; the program goes
+/// on behind it once that entry was told something.
+#[derive(Clone, Copy, Drop)]
+pub enum Op {
+    /// Gives the entry of this number.
+    Give(usize),
+    /// Goes on at this line where the test does not hold, and else at the next.
+    Unless(Test, usize),
+    /// Goes on at this line.
+    Jump(usize),
+    /// Keeps a word.
+    Keep(Slot, Source),
+    /// Adds a number to a word that is kept, modulo 2^64.
+    Add(Slot, u64),
+}
+
+/// A part of an entry's message that is a word that is kept: its label, or a word of it.
+#[derive(Clone, Copy, Drop)]
+pub struct Fill {
+    pub number: usize,
+    pub word: Option<u8>,
+    pub from: Slot,
+}
+
+/// Which entry a program gives next, if any, and the words that are kept then.
+#[derive(Clone, Copy, Drop)]
+pub struct Settled {
+    pub number: Option<usize>,
+    pub saved: Saved,
+}
+
+impl Saved {
+    /// No word is kept.
+    pub fn none() -> Saved
+        ensures { result ≡ nothing_saved }
+    {
+        Saved {
+            a: 0,
+            b: 0,
+            c: 0,
+            d: 0,
+        }
+    }
+
+    /// A word that is kept.
+    pub fn at(self, slot: Slot) -> u64
+        ensures { result ≡ saved_in self slot }
+    {
+        match slot {
+            Slot::A => self.a,
+            Slot::B => self.b,
+            Slot::C => self.c,
+            Slot::D => self.d,
+        }
+    }
+
+    /// The words, with another one in a slot.
+    fn with(self, slot: Slot, word: u64) -> Saved
+        ensures { result ≡ with_saved self slot word }
+    {
+        match slot {
+            Slot::A => Saved { a: word, ..self },
+            Slot::B => Saved { b: word, ..self },
+            Slot::C => Saved { c: word, ..self },
+            Slot::D => Saved { d: word, ..self },
+        }
+    }
+}
+
+/// The number for which something stands.
+fn read(told: &Told<'_>, saved: Saved, source: Source) -> u64
+    ensures { result ≡ read told.now saved source }
+{
+    match source {
+        Source::Number(number) => number,
+        Source::Badge => told.badge(),
+        Source::Label => told.label(),
+        Source::Word(number) => told.word(number),
+        Source::Saved(slot) => saved.at(slot),
+    }
+}
+
+/// Whether a test holds.
+fn holds(told: &Told<'_>, saved: Saved, test: Test) -> bool
+    ensures { result ≡ holds told.now saved test }
+{
+    match test {
+        Test::Got => told.is_got(),
+        Test::Heard => told.is_heard(),
+        Test::Empty => told.is_empty(),
+        Test::Done => told.is_done(),
+        Test::Refused => 0 < told.refused_by(),
+        Test::RefusedBy(number) => told.refused_by() == number,
+        Test::Is(one, other) => read(told, saved, one) == read(told, saved, other),
+        Test::IsLess(one, other) => read(told, saved, one) < read(told, saved, other),
+        Test::Has(one, other) => {
+            let bits = read(told, saved, other);
+            read(told, saved, one) & bits == bits
+        }
+    }
+}
+
+impl Op {
+    /// The entry that a line gives.
+    fn given(self) -> Option<usize>
+        ensures { result ≡ op_given self }
+    {
+        match self {
+            Op::Give(number) => Some(number),
+            _ => None,
+        }
+    }
+
+    /// Whether it is the line that gives an entry.
+    fn gives(self, number: usize) -> bool
+        ensures { result ≡ gives number self }
+    {
+        match self {
+            Op::Give(given) => given == number,
+            _ => false,
+        }
+    }
+
+    /// The words that are kept behind a line.
+    fn saved(self, told: &Told<'_>, saved: Saved) -> Saved
+        ensures { result ≡ op_saved told.now saved self }
+    {
+        match self {
+            Op::Keep(slot, from) => saved.with(slot, read(told, saved, from)),
+            Op::Add(slot, number) => saved.with(slot, saved.at(slot).wrapping_add(number)),
+            _ => saved,
+        }
+    }
+
+    /// Where a program goes on behind the line in a place.
+    fn next(self, told: &Told<'_>, saved: Saved, at: usize) -> usize
+        requires { at + 1 < 2 ^ 64 }
+        ensures { result ≡ op_next told.now saved at self }
+    {
+        match self {
+            Op::Unless(test, to) => { if holds(told, saved, test) { at + 1 } else { to } }
+            Op::Jump(to) => to,
+            _ => at + 1,
+        }
+    }
+}
+
+/// The line in a place, if there is one.
+fn op_at(ops: &[Op], place: usize) -> Option<Op>
+    ensures { result ≡ slice_get ops.now place }
+{
+    ops.get(place).copied()
+}
+
+/// The entry that a program gives next, from a place on; none where it stops.
+fn settle(ops: &[Op], told: &Told<'_>, saved: Saved, at: usize) -> Settled
+    ensures { result ≡ settled (length ops.now) ops.now told.now saved at }
+{
+    let mut kept = saved;
+    let mut place = at;
+    for done in 0..ops.len() {
+        let Some(op) = op_at(ops, place) else {
+            return Settled {
+                number: None,
+                saved: kept,
+            };
+        };
+        if let Some(number) = op.given() {
+            return Settled {
+                number: Some(number),
+                saved: kept,
+            };
+        }
+        let next = op.next(told, kept, place);
+        kept = op.saved(told, kept);
+        place = next;
+    }
+    Settled {
+        number: None,
+        saved: kept,
+    }
+}
+
+/// The place of the line that gives an entry.
+fn place_of(ops: &[Op], number: usize) -> Option<usize>
+    ensures { result ≡ position (gives number) ops.now }
+{
+    ops.iter().position(|op| op.gives(number))
+}
+
+/// The entry that a program gives next where this one was told something; None where it has no such
+/// entry.
+pub fn goes_on(ops: &[Op], number: usize, saved: Saved, told: &Told<'_>) -> Option<Settled>
+    ensures { result ≡ goes_on ops.now number saved told.now }
+{
+    match place_of(ops, number) {
+        Some(place) => Some(settle(ops, told, saved, place + 1)),
+        None => None,
+    }
+}
+
+/// The first entry that a program gives; None where there is no program.
+pub fn starts(ops: &[Op]) -> Option<Settled>
+    ensures { result ≡ starts ops.now }
+{
+    if ops.is_empty() {
+        return None;
+    }
+    Some(settle(ops, &Told::nothing(), Saved::none(), 0))
+}
+
+/// A label with what is kept, where this is of it.
+fn label_by(fill: Fill, number: usize, saved: Saved, label: u64) -> u64
+    requires { label < 2 ^ label_bits }
+    ensures value { result ≡ label_by fill number saved label }
+    ensures range { result < 2 ^ label_bits }
+{
+    if fill.word.is_none() && fill.number == number {
+        saved.at(fill.from) % (1 << LABEL_BITS)
+    } else {
+        label
+    }
+}
+
+/// The label of an entry's message, with what is kept.
+fn filled_label(fills: &[Fill], number: usize, saved: Saved, label: u64) -> u64
+    requires { label < 2 ^ label_bits }
+    ensures value { result ≡ filled_label fills.now number saved label }
+    ensures range { result < 2 ^ label_bits }
+{
+    let mut now = label;
+    for fill in fills {
+        now = label_by(*fill, number, saved, now);
+    }
+    now
+}
+
+/// Puts a word that is kept into its place, where this is of one, if there is such a place.
+fn put(words: &mut Vec<u64>, fill: Fill, number: usize, saved: Saved)
+    ensures { words.new.items ≡ words_by fill number saved words.old.items }
+{
+    if fill.number != number {
+        return;
+    }
+    let Some(place) = fill.word else {
+        return;
+    };
+    let place = place as usize;
+    if place < words.len() {
+        words[place] = saved.at(fill.from);
+    }
+}
+
+/// Puts the words that are kept into those of an entry's message.
+fn put_words(fills: &[Fill], number: usize, saved: Saved, words: &mut Vec<u64>)
+    ensures { words.new.items ≡ filled_words fills.now number saved words.old.items }
+{
+    for fill in fills {
+        put(words, *fill, number, saved);
+    }
+}
+
+/// An entry's message, with what is kept. OutOfMemory where memory was refused.
+fn filled_message(
+    alloc: Global,
+    fills: &[Fill],
+    number: usize,
+    saved: Saved,
+    message: &Message,
+) -> Result<Message, OutOfMemory>
+    ensures { IfOk result (λ m. m ≡ filled_message fills.now number saved message.now) }
+{
+    message.is_in_range();
+    let mut words = Vec::new(alloc);
+    words.extend_from_slice(message.words())?;
+    put_words(fills, number, saved, &mut words);
+    let label = filled_label(fills, number, saved, message.label());
+    match Message::new(alloc, label, &words)? {
+        Some(message) => Ok(message),
+        None => unreachable!(),
+    }
+}
+
+/// An entry of this number, with what is kept in its message. OutOfMemory where memory was refused.
+pub fn filled(
+    alloc: Global,
+    fills: &[Fill],
+    number: usize,
+    saved: Saved,
+    entry: Entry,
+) -> Result<Entry, OutOfMemory>
+    ensures { IfOk result (λ e. e ≡ filled fills.now number saved entry) }
+{
+    let filled = match entry {
+        Entry::Send { cap, message } => Entry::Send {
+            cap,
+            message: filled_message(alloc, fills, number, saved, &message)?,
+        },
+        Entry::NbSend { cap, message } => Entry::NbSend {
+            cap,
+            message: filled_message(alloc, fills, number, saved, &message)?,
+        },
+        Entry::Call { cap, message } => Entry::Call {
+            cap,
+            message: filled_message(alloc, fills, number, saved, &message)?,
+        },
+        Entry::ReplyRecv {
+            cap,
+            reply,
+            message,
+        } => Entry::ReplyRecv {
+            cap,
+            reply,
+            message: filled_message(alloc, fills, number, saved, &message)?,
+        },
+        Entry::NbSendRecv {
+            cap,
+            source,
+            reply,
+            message,
+        } => Entry::NbSendRecv {
+            cap,
+            source,
+            reply,
+            message: filled_message(alloc, fills, number, saved, &message)?,
+        },
+        Entry::NbSendWait {
+            cap,
+            source,
+            message,
+        } => Entry::NbSendWait {
+            cap,
+            source,
+            message: filled_message(alloc, fills, number, saved, &message)?,
+        },
+        other => other,
+    };
+    Ok(filled)
+}

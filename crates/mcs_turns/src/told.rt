@@ -1,0 +1,211 @@
+//! What a thread was told: the answer to its last entry, or what reached it while that waited
+//! (own).
+ghost use Rattle.std.specs.Prelude.{◌≡◌, []};
+ghost use Rattle.mcs_types.specs.declared.entry.Answer.TheVariants as answer;
+ghost use Rattle.mcs_turns.specs.Told.{answer_of};
+ghost use Rattle.mcs_turns.specs.Programs.{badge_told, is_done, is_empty, is_got, is_heard, label_told, refusal_number, refused_by, word_told};
+
+use mcs_types::{Answer, Badge, Refusal};
+use std::marker::Model;
+
+/// Which answer it is.
+#[derive(Clone, Copy, Drop)]
+pub enum Form {
+    Done,
+    Waits,
+    Got,
+    Heard,
+    Empty,
+    Refused(Refusal),
+}
+
+/// An answer, whose message is lent. Clauses see the answer.
+#[derive(Drop)]
+pub struct Told<'a> {
+    pub form: Form,
+    /// The badge of a message, or the word that was heard.
+    pub word: u64,
+    pub label: u64,
+    pub words: &'a [u64],
+}
+
+impl<'a> Model for Told<'a> {
+    ghost use Rattle.mcs_types.specs.declared.entry.Answer.{Answer};
+    ghost use Rattle.mcs_turns.specs.Told.{answer_of};
+
+    ghost Value = { Answer };
+
+    ghost view = { λ t. answer_of t.form t.word t.label t.words.now };
+}
+
+/// The number of a refusal.
+fn refusal_number(refusal: Refusal) -> u8
+    ensures { result ≡ refusal_number refusal }
+{
+    match refusal {
+        Refusal::Missing => 1,
+        Refusal::DepthMismatch => 2,
+        Refusal::GuardMismatch => 3,
+        Refusal::WrongKind => 4,
+        Refusal::NoRight => 5,
+        Refusal::Range => 6,
+        Refusal::SlotFull => 7,
+        Refusal::SlotEmpty => 8,
+        Refusal::AlreadyBound => 9,
+        Refusal::NotBound => 10,
+        Refusal::NoRoom => 11,
+        Refusal::BadgeNotAllowed => 12,
+        Refusal::LastCNode => 13,
+    }
+}
+
+impl<'a> Told<'a> {
+    /// An answer without a message or a word.
+    fn plain(form: Form) -> Told<'a>
+        ensures { result ≡ answer_of form 0 0 [] }
+    {
+        Told {
+            form,
+            word: 0,
+            label: 0,
+            words: &[],
+        }
+    }
+
+    /// Nothing was told yet: every test is false, and every value 0.
+    pub fn nothing() -> Told<'a>
+        ensures { result ≡ answer.Waits }
+    {
+        Told::plain(Form::Waits)
+    }
+
+    /// That the entry is done.
+    pub fn done() -> Told<'a>
+        ensures { result ≡ answer.Done }
+    {
+        Told::plain(Form::Done)
+    }
+
+    /// That a word was heard.
+    pub fn heard(word: u64) -> Told<'a>
+        ensures { result ≡ answer.Heard word }
+    {
+        Told {
+            form: Form::Heard,
+            word,
+            label: 0,
+            words: &[],
+        }
+    }
+
+    /// That a message came, of this label and these words.
+    pub fn got(badge: Badge, label: u64, words: &'a [u64]) -> Told<'a>
+        ensures { result ≡ answer.Got badge (record { label = label; words = words.entry.now }) }
+    {
+        Told {
+            form: Form::Got,
+            word: badge.0,
+            label,
+            words,
+        }
+    }
+
+    /// An answer, lent.
+    pub fn of(answer: &'a Answer) -> Told<'a>
+        ensures { result ≡ answer.entry.now }
+    {
+        match answer {
+            Answer::Done => Told::done(),
+            Answer::Waits => Told::nothing(),
+            Answer::Got { badge, message } => {
+                Told::got(*badge, message.label(), message.words())
+            }
+            Answer::Heard { word } => Told::heard(*word),
+            Answer::Empty => Told::plain(Form::Empty),
+            Answer::Refused(refusal) => Told::plain(Form::Refused(*refusal)),
+        }
+    }
+
+    /// The same answer, lent once more.
+    pub fn again(&self) -> Told<'a>
+        ensures { result ≡ self.now }
+    {
+        Told {
+            form: self.form,
+            word: self.word,
+            label: self.label,
+            words: self.words,
+        }
+    }
+
+    /// The badge of the message, or the word that was heard; 0 where there is neither.
+    pub fn badge(&self) -> u64
+        ensures { result ≡ badge_told self.now }
+    {
+        match self.form {
+            Form::Got | Form::Heard => self.word,
+            Form::Done | Form::Waits | Form::Empty | Form::Refused(_) => 0,
+        }
+    }
+
+    /// The label of the message; 0 where there is none.
+    pub fn label(&self) -> u64
+        ensures { result ≡ label_told self.now }
+    {
+        match self.form {
+            Form::Got => self.label,
+            Form::Done | Form::Waits | Form::Heard | Form::Empty | Form::Refused(_) => 0,
+        }
+    }
+
+    /// A word of the message, by its number from 0; 0 where it has no such word.
+    pub fn word(&self, number: u8) -> u64
+        ensures { result ≡ word_told self.now number }
+    {
+        match self.form {
+            Form::Got => match self.words.get(number as usize) {
+                Some(word) => *word,
+                None => 0,
+            },
+            Form::Done | Form::Waits | Form::Heard | Form::Empty | Form::Refused(_) => 0,
+        }
+    }
+
+    /// The number of the refusal; 0 where nothing was refused.
+    pub fn refused_by(&self) -> u8
+        ensures { result ≡ refused_by self.now }
+    {
+        match self.form {
+            Form::Refused(refusal) => refusal_number(refusal),
+            Form::Done | Form::Waits | Form::Got | Form::Heard | Form::Empty => 0,
+        }
+    }
+
+    /// Whether a message came.
+    pub fn is_got(&self) -> bool
+        ensures { result ≡ is_got self.now }
+    {
+        matches!(self.form, Form::Got)
+    }
+
+    /// Whether a word was heard.
+    pub fn is_heard(&self) -> bool
+        ensures { result ≡ is_heard self.now }
+    {
+        matches!(self.form, Form::Heard)
+    }
+
+    /// Whether nothing was there.
+    pub fn is_empty(&self) -> bool
+        ensures { result ≡ is_empty self.now }
+    {
+        matches!(self.form, Form::Empty)
+    }
+
+    /// Whether the entry is done.
+    pub fn is_done(&self) -> bool
+        ensures { result ≡ is_done self.now }
+    {
+        matches!(self.form, Form::Done)
+    }
+}
