@@ -13,6 +13,10 @@ pub record Lines : Type 0 where
   pub entries : List ProgramEntry
   pub fills : List Fill
 
+-- these lines, with these entries and what is filled into their messages
+abbrev pub lines : List Op → List ProgramEntry → List Fill → Lines
+lines ops entries fills = record { ops = ops; entries = entries; fills = fills }
+
 -- a line that gives an entry gives one of so many
 abbrev pub GivesOneOf : ℕ → Op → Type 0
 GivesOneOf n (op.Give number) = number < n
@@ -48,4 +52,4 @@ within n o = o
 
 -- those of a program are
 abbrev pub IsProgram : Program → Type 0
-IsProgram p = AreLines (record { ops = p.ops.items; entries = p.entries.items; fills = p.fills.items })
+IsProgram p = AreLines (lines p.ops.items p.entries.items p.fills.items)

@@ -1,6 +1,6 @@
 //! Blocks of a program that are open.
 use mcs_turns::Slot;
-use std::alloc::AllocError;
+use std::alloc::{AllocError, Global};
 
 /// A slot that counts the rounds of a loop, and how many there are.
 #[derive(Clone, Copy, Drop)]
@@ -18,7 +18,7 @@ pub struct Round {
 }
 
 /// The arms of an `if`: the lines that pass by the arm that is open, and those that end the arms
-/// before it.
+/// before it. A plain block is one arm, which nothing passes by.
 #[derive(Drop)]
 pub struct Arms {
     pub skips: Vec<usize>,
@@ -33,11 +33,13 @@ pub enum Shape {
     Arms(Arms),
 }
 
-/// A block, the line of the script that opened it, and how many words were kept before it.
+/// A block, the line of the script that opened it, how many words were kept before it, and the place
+/// of its name, if it has one.
 #[derive(Drop)]
 pub struct Block {
     pub line: u64,
     pub kept: usize,
+    pub label: Option<usize>,
     pub shape: Shape,
 }
 
@@ -57,6 +59,17 @@ impl Round {
             start: self.start,
             counter: self.counter,
             kept: before.saturating_add(own),
+        }
+    }
+}
+
+impl Arms {
+    /// The arm that a plain block is.
+    pub fn plain(alloc: Global) -> Arms {
+        Arms {
+            skips: Vec::new(alloc),
+            ends: Vec::new(alloc),
+            is_last: true,
         }
     }
 }

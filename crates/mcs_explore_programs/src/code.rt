@@ -1,6 +1,6 @@
 //! The lines of a program as they are put together, and the entries that they give.
 ghost use Rattle.std.specs.Prelude.{◌≡◌, ◌<◌, [], IfOk, OnOk, length, map};
-ghost use Rattle.mcs_explore_programs.specs.Programs.{AreLines, GivesOneOf, within};
+ghost use Rattle.mcs_explore_programs.specs.Programs.{AreLines, GivesOneOf, lines, within};
 
 use crate::conditions::Check;
 use crate::slots::Slots;
@@ -36,13 +36,13 @@ pub struct Code {
 }
 
 impl Model for Code {
-    ghost use Rattle.mcs_explore_programs.specs.Programs.{Lines, NameEntries};
+    ghost use Rattle.mcs_explore_programs.specs.Programs.{Lines, NameEntries, lines};
 
     ghost Value = { Lines };
 
-    ghost view = { λ c. record { ops = c.ops.items; entries = c.entries.items; fills = c.fills.items } };
+    ghost view = { λ c. lines c.ops.items c.entries.items c.fills.items };
 
-    ghost invariant = { λ c. NameEntries (record { ops = c.ops.items; entries = c.entries.items; fills = c.fills.items }) };
+    ghost invariant = { λ c. NameEntries (lines c.ops.items c.entries.items c.fills.items) };
 }
 
 /// A line that goes on behind so many lines at the furthest.
@@ -59,7 +59,7 @@ fn within(op: Op, count: usize) -> Op
 impl Code {
     /// No line.
     pub fn new(alloc: Global) -> Code
-        ensures { result ≡ record { ops = []; entries = []; fills = [] } }
+        ensures { result ≡ lines [] [] [] }
     {
         Code {
             ops: Vec::new(alloc),
@@ -212,7 +212,7 @@ impl Code {
 
     /// The lines, each of which goes on within them or behind them.
     fn aimed_ops(&self, alloc: Global) -> Result<Vec<Op>, AllocError>
-        ensures { IfOk result (λ ops. ops.items ≡ map (within (length self.now.ops)) self.now.ops) }
+        ensures { IfOk result (λ o. o.items ≡ map (within (length self.now.ops)) self.now.ops) }
     {
         let count = self.ops.len();
         self.ops.iter().map(|op| within(*op, count)).collect(alloc)
@@ -226,7 +226,7 @@ impl Code {
         alloc: Global,
     ) -> Result<(Vec<Op>, Vec<ProgramEntry>, Vec<Fill>), AllocError>
         requires { 0 < length self.entries }
-        ensures { IfOk result (λ p. AreLines (record { ops = p.0.items; entries = p.1.items; fills = p.2.items })) }
+        ensures { IfOk result (λ p. AreLines (lines p.0.items p.1.items p.2.items)) }
     {
         let ops = self.aimed_ops(alloc)?;
         Ok((ops, self.entries, self.fills))

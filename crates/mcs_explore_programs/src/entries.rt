@@ -4,7 +4,7 @@ use crate::fault::ProgramFault;
 use crate::keywords::label_place;
 use crate::naming::Word;
 use crate::slots::Slots;
-use crate::statement::Statement;
+use crate::statement::{Statement, hexadecimal};
 use crate::values::source_of;
 use mcs_text::read_user;
 use mcs_turns::{Op, Slot, Source};
@@ -46,11 +46,25 @@ impl EntryLine {
         })
     }
 
+    /// Adds a word to the line that is read: 0 for a value, and a number after `0x` in decimal.
+    fn add_to_line(&mut self, word: &[u8]) -> Result<(), AllocError> {
+        self.line.push(b' ')?;
+        if is_filled(word) {
+            return Ok(self.line.push(b'0')?);
+        }
+        match hexadecimal(word) {
+            Some(number) => {
+                let digits = format!(in self.alloc; "{number}")?;
+                self.line.extend_from_slice(digits.as_bytes())?;
+            }
+            None => self.line.extend_from_slice(word)?,
+        }
+        Ok(())
+    }
+
     /// Adds the next word.
     fn add(&mut self, word: &[u8]) -> Result<(), AllocError> {
-        self.line.push(b' ')?;
-        self.line
-            .extend_from_slice(if is_filled(word) { b"0" } else { word })?;
+        self.add_to_line(word)?;
         self.text.push(b' ')?;
         self.text.extend_from_slice(word)?;
         self.count = self.count.saturating_add(1);

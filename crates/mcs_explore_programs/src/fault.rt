@@ -44,9 +44,11 @@ pub enum ProgramFault {
     Deep { limit: usize },
     #[error("{word} stands where no message is")]
     NoMessage { word: Word },
-    #[error("{word} is the name of entry {number} already")]
+    #[error("{word} is the name of entry {number} already, or of a block that begins with it")]
     NamedTwice { word: Word, number: usize },
-    #[error("{word} begins no entry")]
+    #[error("{word} is the name of a block without an entry")]
+    NamesNothing { word: Word },
+    #[error("{word} begins no entry and opens no block")]
     NoEntry { word: Word },
     #[error("this entry is refused: {why}")]
     Entry { why: LineFault },

@@ -3,7 +3,7 @@ use mcs_lab_forms::{FORMS, Fields, form_of};
 use mcs_text::find_boot_key;
 
 /// The words with which statements begin that are no entries, as a fault lists them.
-pub const KEYWORDS: &str = "let, forever, while, repeat, if, }, break, continue, stop";
+pub const KEYWORDS: &str = "let, forever, while, repeat, if, {, }, break, continue, stop";
 
 /// A word with which a statement begins that is no entry.
 #[derive(Clone, Copy)]
@@ -13,6 +13,7 @@ pub enum Keyword {
     While,
     Repeat,
     If,
+    Open,
     Close,
     Break,
     Continue,
@@ -28,11 +29,26 @@ impl Keyword {
             b"while" => Some(Keyword::While),
             b"repeat" => Some(Keyword::Repeat),
             b"if" => Some(Keyword::If),
+            b"{" => Some(Keyword::Open),
             b"}" => Some(Keyword::Close),
             b"break" => Some(Keyword::Break),
             b"continue" => Some(Keyword::Continue),
             b"stop" => Some(Keyword::Stop),
             _ => None,
+        }
+    }
+
+    /// Whether it opens a block.
+    pub fn opens(self) -> bool {
+        match self {
+            Keyword::Forever | Keyword::While | Keyword::Repeat | Keyword::If | Keyword::Open => {
+                true
+            }
+            Keyword::Let
+            | Keyword::Close
+            | Keyword::Break
+            | Keyword::Continue
+            | Keyword::Stop => false,
         }
     }
 }

@@ -22,22 +22,25 @@ const LINES: usize = 4096;
 /// How deep blocks are at most.
 const DEPTH: usize = 32;
 
-/// The name of an entry, and the entry's number from 0 on.
+/// The name of an entry of a thread, or of a block, and the numbers of its first and its last entry,
+/// from 1 on.
 #[derive(Drop)]
-pub struct EntryName {
+pub struct Label {
+    pub thread: ObjId,
     pub name: Vec<u8>,
-    pub number: usize,
+    pub first: usize,
+    pub last: usize,
 }
 
 /// A program: its entries, in the order of the script, the lines by which a user goes on, what is
-/// filled into messages, and the names of entries.
+/// filled into messages, and the names of entries and blocks.
 #[derive(Drop)]
 pub struct Program {
     pub thread: ObjId,
     pub entries: Vec<ProgramEntry>,
     pub ops: Vec<Op>,
     pub fills: Vec<Fill>,
-    pub names: Vec<EntryName>,
+    pub labels: Vec<Label>,
 }
 
 /// The program of a thread, as far as its lines were read.
@@ -51,7 +54,7 @@ pub struct ProgramLines {
     code: Code,
     slots: Slots,
     blocks: Vec<Block>,
-    names: Vec<EntryName>,
+    labels: Vec<Label>,
 }
 
 impl ProgramLines {
@@ -67,7 +70,7 @@ impl ProgramLines {
             code: Code::new(alloc),
             slots: Slots::new(alloc),
             blocks: Vec::new(alloc),
-            names: Vec::new(alloc),
+            labels: Vec::new(alloc),
         }
     }
 
@@ -119,6 +122,7 @@ impl ProgramLines {
             Keyword::While => self.open_while(words),
             Keyword::Repeat => self.open_repeat(words),
             Keyword::If => self.open_if(words),
+            Keyword::Open => self.open_plain(words),
             Keyword::Close => self.close(words),
             Keyword::Break => {
                 words.end()?;
@@ -140,7 +144,7 @@ impl ProgramLines {
     /// Reads a statement that begins with another word, which was taken.
     fn take_other(&mut self, word: &[u8], words: &mut Statement<'_>) -> Result<(), ProgramFault> {
         if let [name @ .., b':'] = word {
-            return self.give_named(name, words);
+            return self.take_named(name, words);
         }
         if is_entry(word) {
             return self.give(word, words);
@@ -167,21 +171,31 @@ impl ProgramLines {
         )
     }
 
-    /// Reads an entry behind its name.
-    fn give_named(&mut self, name: &[u8], words: &mut Statement<'_>) -> Result<(), ProgramFault> {
-        let number = self.code.entries();
-        self.add_name(name, number)?;
-        let key = words.need("an entry")?;
+    /// Reads an entry behind its name, or what opens a block. NoEntry where it is neither.
+    fn take_named(&mut self, name: &[u8], words: &mut Statement<'_>) -> Result<(), ProgramFault> {
+        let place = self.labels.len();
+        self.add_label(name)?;
+        let key = words.need("an entry or a block")?;
         if is_entry(key) {
             return self.give(key, words);
         }
-        Err(ProgramFault::NoEntry {
-            word: self.word(key)?,
-        })
+        match Keyword::of(key) {
+            Some(keyword) if keyword.opens() => {
+                self.take_keyword(keyword, key, words)?;
+                if let Some(block) = self.blocks.last_mut() {
+                    block.label = Some(place);
+                }
+                Ok(())
+            }
+            _ => Err(ProgramFault::NoEntry {
+                word: self.word(key)?,
+            }),
+        }
     }
 
-    /// Adds the name of an entry. Not where it can't be one, NamedTwice where another entry has it.
-    fn add_name(&mut self, name: &[u8], number: usize) -> Result<(), ProgramFault> {
+    /// Adds the name of the next entry. Not where it can't be one, NamedTwice where it is one
+    /// already.
+    fn add_label(&mut self, name: &[u8]) -> Result<(), ProgramFault> {
         let word = self.word(name)?;
         if !is_name(name) {
             return Err(ProgramFault::Not {
@@ -189,14 +203,37 @@ impl ProgramLines {
                 wanted: "a name: a letter, and then letters, digits, _, - or .",
             });
         }
-        for other in self.names.iter() {
+        for other in self.labels.iter() {
             if other.name.as_slice() == name {
-                let number = other.number.saturating_add(1);
+                let number = other.first;
                 return Err(ProgramFault::NamedTwice { word, number });
             }
         }
-        let name = Vec::from_slice(self.alloc, name)?;
-        self.names.push(EntryName { name, number })?;
+        let number = self.code.entries().saturating_add(1);
+        self.labels.push(Label {
+            thread: self.thread,
+            name: Vec::from_slice(self.alloc, name)?,
+            first: number,
+            last: number,
+        })?;
+        Ok(())
+    }
+
+    /// Ends the block of a name here. NamesNothing where it has no entry.
+    fn end_label(&mut self, place: Option<usize>) -> Result<(), ProgramFault> {
+        let count = self.code.entries();
+        let Some(place) = place else {
+            return Ok(());
+        };
+        let Some(label) = self.labels.get_mut(place) else {
+            return Ok(());
+        };
+        if count < label.first {
+            return Err(ProgramFault::NamesNothing {
+                word: Word::new(self.alloc, label.name.as_slice())?,
+            });
+        }
+        label.last = count;
         Ok(())
     }
 
@@ -251,9 +288,17 @@ impl ProgramLines {
         self.blocks.push(Block {
             line: self.line,
             kept,
+            label: None,
             shape,
         })?;
         Ok(())
+    }
+
+    /// Opens a block whose statements follow one another.
+    fn open_plain(&mut self, words: &mut Statement<'_>) -> Result<(), ProgramFault> {
+        words.end()?;
+        let kept = self.slots.count();
+        self.open(kept, Shape::Arms(Arms::plain(self.alloc)))
     }
 
     /// Opens a loop that begins here.
@@ -322,15 +367,30 @@ impl ProgramLines {
                 word: self.word(b"}")?,
             });
         };
-        let Block { line, kept, shape } = block;
+        let Block {
+            line,
+            kept,
+            label,
+            shape,
+        } = block;
         match shape {
+            Shape::Arms(arms) if words.peek().is_some() => {
+                let arms = self.next_arm(kept, arms, words)?;
+                self.blocks.push(Block {
+                    line,
+                    kept,
+                    label,
+                    shape: Shape::Arms(arms),
+                })?;
+                return Ok(());
+            }
+            Shape::Arms(arms) => self.close_arms(kept, arms)?,
             Shape::Loop(round) => {
                 words.end()?;
-                self.close_loop(line, kept, round)
+                self.close_loop(line, kept, round)?;
             }
-            Shape::Arms(arms) if words.peek().is_none() => self.close_arms(kept, arms),
-            Shape::Arms(arms) => self.open_next_arm(line, kept, arms, words),
         }
+        self.end_label(label)
     }
 
     /// Closes a loop. EmptyRound where a round may give no entry.
@@ -357,14 +417,13 @@ impl ProgramLines {
         Ok(())
     }
 
-    /// Closes an arm and opens the next: `else {` or `else if CONDITION {`.
-    fn open_next_arm(
+    /// Closes an arm and begins the next: `else {` or `else if CONDITION {`.
+    fn next_arm(
         &mut self,
-        line: u64,
         kept: usize,
         arms: Arms,
         words: &mut Statement<'_>,
-    ) -> Result<(), ProgramFault> {
+    ) -> Result<Arms, ProgramFault> {
         let Arms {
             skips,
             mut ends,
@@ -386,17 +445,11 @@ impl ProgramLines {
         } else {
             self.open_condition(words)?
         };
-        let arms = Arms {
+        Ok(Arms {
             skips,
             ends,
             is_last,
-        };
-        self.blocks.push(Block {
-            line,
-            kept,
-            shape: Shape::Arms(arms),
-        })?;
-        Ok(())
+        })
     }
 
     /// Adds the lines that begin the next round of a loop, if one is left, and returns the line
@@ -489,7 +542,7 @@ impl ProgramLines {
             entries,
             ops,
             fills,
-            names: self.names,
+            labels: self.labels,
         })
     }
 }

@@ -144,10 +144,15 @@ pub fn decimal(word: &[u8]) -> Option<u64> {
     digits(word, 10)
 }
 
-/// The number that a word writes, decimal or after `0x`.
-pub fn number_of(word: &[u8]) -> Option<u64> {
+/// The number that digits after `0x` write; None where it is 2^64 or more, or no `0x` is there.
+pub fn hexadecimal(word: &[u8]) -> Option<u64> {
     match word {
         [b'0', b'x', hex @ ..] => digits(hex, 16),
-        word => digits(word, 10),
+        _ => None,
     }
+}
+
+/// The number that a word writes, decimal or after `0x`.
+pub fn number_of(word: &[u8]) -> Option<u64> {
+    hexadecimal(word).or_else(|| decimal(word))
 }

@@ -60,11 +60,17 @@ pub enum QuestionFault {
     Several {
         word: Word,
     },
-    #[error("{word} is not the number of an entry of {thread}, which has entries 1 to {count}")]
+    #[error("{word} is not the number or name of an entry of {thread}, which has entries 1 to {count}")]
     NoEntry {
         word: Word,
         thread: String,
         count: usize,
+    },
+    #[error("{word} is a block, of entries {first} to {last}: name one of them")]
+    Block {
+        word: Word,
+        first: usize,
+        last: usize,
     },
     #[error("{word} has no entry in it")]
     Empty {

@@ -2,7 +2,7 @@
 use crate::asking::{Asked, Entries, Event, Span, Until};
 use crate::fault::QuestionFault;
 use crate::forms::{Lines, pattern_of};
-use crate::there::{There, entry_of, id_text, no_entry};
+use crate::there::{There, id_text, no_entry};
 use mcs_explore_programs::Word;
 use mcs_lab_forms::number_of;
 use mcs_text::Words;
@@ -18,6 +18,14 @@ const FIRSTS: &str = "idle, live, answer, answer?, some, never, before, again";
 struct Range {
     from: usize,
     to: usize,
+    until: Until,
+}
+
+/// The words at the ends of a range.
+#[derive(Clone, Copy)]
+struct Ends<'a> {
+    from: &'a [u8],
+    to: &'a [u8],
     until: Until,
 }
 
@@ -101,13 +109,38 @@ impl<'a> Reader<'a> {
     /// Reads the entry that the next two words name.
     fn event(&mut self) -> Result<Event, QuestionFault> {
         let list = self.user()?;
-        let word = self.need("the number of an entry")?;
-        entry_of(self.alloc, list, word)
+        let word = self.need("the number of an entry, or its name")?;
+        self.there.entry(self.alloc, list, word)
     }
 
-    /// The range that a word writes. Not where it writes none.
-    fn range(&self, word: &[u8], wanted: &'static str) -> Result<Range, QuestionFault> {
-        match range_in(word) {
+    /// The number that a word of a range says: one of at most 9 digits, or that of an entry of a
+    /// user, by its name.
+    fn bound(&self, list: &UserList, word: &[u8]) -> Option<usize> {
+        match self.there.labelled(list, word) {
+            Some(Entries { first, last }) if first == last => Some(first),
+            Some(_) => None,
+            None => small_number(word),
+        }
+    }
+
+    /// The range of entries of a user that a word writes.
+    fn range_in(&self, list: &UserList, word: &[u8]) -> Option<Range> {
+        let Ends { from, to, until } = ends_of(word)?;
+        Some(Range {
+            from: self.bound(list, from)?,
+            to: self.bound(list, to)?,
+            until,
+        })
+    }
+
+    /// The range of entries of a user that a word writes. Not where it writes none.
+    fn range(
+        &self,
+        list: &UserList,
+        word: &[u8],
+        wanted: &'static str,
+    ) -> Result<Range, QuestionFault> {
+        match self.range_in(list, word) {
             Some(range) => Ok(range),
             None => Err(QuestionFault::Not {
                 word: Word::new(self.alloc, word)?,
@@ -136,13 +169,21 @@ impl<'a> Reader<'a> {
         Ok(())
     }
 
-    /// Reads the span that the next three words name: `t2 in 1..2`.
+    /// Reads the span that the next three words name: `t2 in 1..2`, or `t2 in NAME`.
     fn span(&mut self) -> Result<Span, QuestionFault> {
         let list = self.user()?;
         self.expect("in")?;
-        let wanted = "a span, as 1..2 or 1..=2";
+        let wanted = "a span, as 1..2 or 1..=2, or a name";
         let word = self.need(wanted)?;
-        let Range { from, to, until } = self.range(word, wanted)?;
+        if let Some(Entries { first, last }) = self.there.labelled(list, word) {
+            return Ok(Span {
+                thread: list.thread,
+                from: first.saturating_sub(1),
+                to: last,
+                until: Until::Given,
+            });
+        }
+        let Range { from, to, until } = self.range(list, word, wanted)?;
         self.expect_entries(list, word, from.saturating_add(1), to)?;
         Ok(Span {
             thread: list.thread,
@@ -235,14 +276,13 @@ impl<'a> Reader<'a> {
             return Ok(Entries { first: 1, last });
         };
         self.taken = self.taken.saturating_add(1);
-        if !word.iter().any(|byte| *byte == b'.') {
-            let number = entry_of(self.alloc, list, word)?.number;
-            return Ok(Entries {
-                first: number,
-                last: number,
-            });
+        if let Some(entries) = self.there.labelled(list, word) {
+            return Ok(entries);
         }
-        let Range { from, to, until } = self.range(word, "entries, as 2 or 1..=2")?;
+        if !word.iter().any(|byte| *byte == b'.') {
+            return self.there.entries(self.alloc, list, word);
+        }
+        let Range { from, to, until } = self.range(list, word, "entries, as 2 or 1..=2")?;
         if from == 0 {
             return Err(no_entry(self.alloc, list, word)?);
         }
@@ -270,7 +310,7 @@ impl<'a> Reader<'a> {
     fn live(&mut self) -> Result<Asked, QuestionFault> {
         let list = self.user()?;
         let number = match self.peek() {
-            Some(word) => Some(entry_of(self.alloc, list, word)?.number),
+            Some(word) => Some(self.there.entry(self.alloc, list, word)?.number),
             None => None,
         };
         self.taken = self.taken.saturating_add(usize::from(number.is_some()));
@@ -297,21 +337,23 @@ impl<'a> Reader<'a> {
     }
 }
 
-/// The range of a word: two numbers of at most 9 digits, and two dots between them, after which `=`
-/// may be.
-fn range_in(word: &[u8]) -> Option<Range> {
-    let dots = word.iter().position(|byte| *byte == b'.')?;
-    let from = small_number(word.get(..dots)?)?;
-    let (until, to) = match word.get(dots..)? {
-        [b'.', b'.', b'=', to @ ..] => (Until::Answered, to),
-        [b'.', b'.', to @ ..] => (Until::Given, to),
-        _ => return None,
-    };
-    Some(Range {
-        from,
-        to: small_number(to)?,
-        until,
-    })
+/// The words at the ends of a range: two dots stand between them, after which `=` may be.
+fn ends_of(word: &[u8]) -> Option<Ends<'_>> {
+    let dots = word.windows(2).position(|two| two == b"..".as_slice())?;
+    let from = word.get(..dots)?;
+    match word.get(dots..)? {
+        [_, _, b'=', to @ ..] => Some(Ends {
+            from,
+            to,
+            until: Until::Answered,
+        }),
+        [_, _, to @ ..] => Some(Ends {
+            from,
+            to,
+            until: Until::Given,
+        }),
+        _ => None,
+    }
 }
 
 /// The number that a word of at most 9 digits writes.

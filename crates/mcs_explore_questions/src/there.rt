@@ -1,7 +1,7 @@
 //! What a word of a question may name: threads, their entries, objects and their names.
-use crate::asking::Event;
+use crate::asking::{Entries, Event};
 use crate::fault::QuestionFault;
-use mcs_explore_programs::{Listed, ProgramFault, Word};
+use mcs_explore_programs::{Label, Listed, ProgramFault, Word};
 use mcs_lab_check::{Named, Names, object_of, queue_of};
 use mcs_lab_forms::number_of;
 use mcs_text::letter;
@@ -9,12 +9,14 @@ use mcs_types::{BootLine, Kind, ObjId};
 use mcs_users::{UserList, Users};
 use std::alloc::{AllocError, Global};
 
-/// What there is in a script: its boot, its users, and the names of objects.
+/// What there is in a script: its boot, its users, the names of objects, and those of the entries
+/// of programs.
 #[derive(Clone, Copy)]
 pub struct There<'a> {
     pub boot: &'a [BootLine],
     pub users: &'a Users,
     pub names: &'a Names,
+    pub labels: &'a [Label],
 }
 
 /// The kind of the object that a line of the boot makes, if it makes one.
@@ -173,15 +175,66 @@ impl<'a> There<'a> {
     }
 }
 
-/// The entry of a user that a word says. NoEntry where it has no such entry.
-pub fn entry_of(alloc: Global, list: &UserList, word: &[u8]) -> Result<Event, QuestionFault> {
-    let count = list.entries.len();
-    match number_of(word) {
-        Some(number) if number > 0 && number <= count as u64 => Ok(Event {
+/// The entry of a user that has this number, as a word writes it.
+fn numbered(list: &UserList, word: &[u8]) -> Option<Entries> {
+    let number = number_of(word)?;
+    if number == 0 || number > list.entries.len() as u64 {
+        return None;
+    }
+    Some(Entries {
+        first: number as usize,
+        last: number as usize,
+    })
+}
+
+impl<'a> There<'a> {
+    /// The entries of a user of which a word is the name.
+    pub fn labelled(&self, list: &UserList, word: &[u8]) -> Option<Entries> {
+        for label in self.labels {
+            if label.thread.is_same(list.thread) && label.name.as_slice() == word {
+                return Some(Entries {
+                    first: label.first,
+                    last: label.last,
+                });
+            }
+        }
+        None
+    }
+
+    /// The entries of a user that a word says: one by its number, or those that have the name.
+    /// NoEntry where it says none.
+    pub fn entries(
+        &self,
+        alloc: Global,
+        list: &UserList,
+        word: &[u8],
+    ) -> Result<Entries, QuestionFault> {
+        match numbered(list, word).or_else(|| self.labelled(list, word)) {
+            Some(entries) => Ok(entries),
+            None => Err(no_entry(alloc, list, word)?),
+        }
+    }
+
+    /// The entry of a user that a word says. NoEntry where it says none, Block where it says
+    /// several.
+    pub fn entry(
+        &self,
+        alloc: Global,
+        list: &UserList,
+        word: &[u8],
+    ) -> Result<Event, QuestionFault> {
+        let Entries { first, last } = self.entries(alloc, list, word)?;
+        if first != last {
+            return Err(QuestionFault::Block {
+                word: Word::new(alloc, word)?,
+                first,
+                last,
+            });
+        }
+        Ok(Event {
             thread: list.thread,
-            number: number as usize,
-        }),
-        _ => Err(no_entry(alloc, list, word)?),
+            number: first,
+        })
     }
 }
 

@@ -4,13 +4,13 @@ use Rattle.mcs_types.specs.declared.entry.Answer.{Answer}
 use Rattle.mcs_types.specs.declared.entry.Answer.TheVariants as answer
 use Rattle.mcs_types.specs.declared.entry.Entry.{Entry}
 use Rattle.mcs_turns.specs.declared.position.Pick.{Pick}
-use Rattle.mcs_turns.specs.Turns.{User, Going}
+use Rattle.mcs_turns.specs.Turns.{User, Going, is_send_at}
 use Rattle.mcs_explore_walk.specs.declared.walk.Turn.{Turn}
 use Rattle.mcs_explore_orders.specs.Shown.{Made}
 use Rattle.mcs_explore_report.specs.declared.answers.Told.{Told}
 use Rattle.mcs_turns.specs.declared.reached.Reached.{Reached}
 use Rattle.mcs_explore_script.specs.UserLists.{user_of}
-use Rattle.mcs_turns.specs.Mail.{brought, is_send}
+use Rattle.mcs_turns.specs.Mail.{brought}
 
 -- the answers of the entries of all users
 abbrev pub Tables : Type 0
@@ -78,7 +78,7 @@ pub record IsOwnAnswer (m : Made) (i n : ℕ) (a : Answer) : Type 0 where
 abbrev pub gave_send : List User → ℕ → ℕ → Bool
 gave_send users user number = elim (slice_get users user) [
   | None ↦ false
-  | Some u ↦ elim (slice_get u.entries number) [ None ↦ false | Some e ↦ is_send e ]
+  | Some u ↦ is_send_at u number
 ]
 
 -- whether an entry that waited comes to this: that a thread goes on says so of Send alone

@@ -1,7 +1,6 @@
 //! The answers that entries can get.
 ghost use Rattle.std.specs.Prelude.{◌≡◌, ◌↔◌, ◌++◌, ◌∷◌, [], IsTrue, IfOk, OnOk, map, slice_get, unwrap_or};
 ghost use Rattle.mcs_explore_report.specs.Answers.{IsAmong, IsNoted, IsNotedIn, IsNotedOf, IsNotedTurn, no_answers, table_of};
-ghost use Rattle.mcs_turns.specs.Mail.{is_send};
 
 use mcs_explore_orders::{OrdersFault, Turn, Users};
 use mcs_types::{Answer, Entry};
@@ -218,11 +217,4 @@ impl Answers {
         }
         self.note(turn.pick.user, turn.pick.number, answer, place, turn)
     }
-}
-
-/// Returns whether an entry is Send, whose thread goes on once its message is taken.
-pub fn is_send(entry: &Entry) -> bool
-    ensures { result ≡ is_send entry.now }
-{
-    matches!(entry, Entry::Send { .. })
 }

@@ -3,12 +3,13 @@ ghost use Rattle.std.specs.Prelude.{◌≡◌, ◌++◌, IfOk, None, OnOk};
 ghost use Rattle.mcs_explore_report.specs.Answers.{AreNotedMail, IsNotedMail, comes_to, gave_send, mailed_to, waiting};
 ghost use Rattle.mcs_turns.specs.Mail.{brought, got_with, listed, reached_from, reaching, taken};
 
-use crate::answers::{Answers, is_send};
+use crate::answers::Answers;
 use mcs_book::Line;
 use mcs_explore_orders::{OrdersFault, Turn, Users, Walk};
 use mcs_explore_walk::newest;
 use mcs_queues::PlainLines;
 use mcs_turns::{Pick, Reached};
+use mcs_users::is_send_at;
 use mcs_types::{Answer, Badge, Mode, ObjId, Rec};
 use std::alloc::Global;
 
@@ -108,10 +109,7 @@ fn gave_send(users: &Users, user: usize, number: usize) -> bool
     ensures { result ≡ gave_send users.now user number }
 {
     match users.at(user) {
-        Some(list) => match list.entries.get(number) {
-            Some(entry) => is_send(entry),
-            None => false,
-        },
+        Some(list) => is_send_at(list, number),
         None => false,
     }
 }

@@ -1,13 +1,12 @@
 //! The texts of answers.
 ghost use Rattle.std.specs.Prelude.{◌≡◌, ◌++◌, IfOk, OnOk, codes};
 ghost use Rattle.std.specs.List.{flat_map};
-ghost use Rattle.mcs_text.specs.Table.{refusal_number};
 ghost use Rattle.mcs_explore_report.specs.Saying.{number_text, said};
 
 use mcs_lab_check::LabFault;
 use mcs_text::Token;
 use mcs_trace::{Line, spell};
-use mcs_types::{Answer, Badge, Message, Refusal};
+use mcs_types::{Answer, Badge, Message};
 use std::alloc::Global;
 
 /// Puts bytes behind a text.
@@ -53,27 +52,6 @@ fn put_message(
     put_numbers(text, line, message.words())
 }
 
-/// The number of a refusal.
-fn number_of(refusal: Refusal) -> u64
-    ensures { result ≡ refusal_number refusal }
-{
-    match refusal {
-        Refusal::Missing => 1,
-        Refusal::DepthMismatch => 2,
-        Refusal::GuardMismatch => 3,
-        Refusal::WrongKind => 4,
-        Refusal::NoRight => 5,
-        Refusal::Range => 6,
-        Refusal::SlotFull => 7,
-        Refusal::SlotEmpty => 8,
-        Refusal::AlreadyBound => 9,
-        Refusal::NotBound => 10,
-        Refusal::NoRoom => 11,
-        Refusal::BadgeNotAllowed => 12,
-        Refusal::LastCNode => 13,
-    }
-}
-
 /// Puts a word and a number behind a text.
 fn put_one(text: &mut Vec<u8>, line: &mut Line, word: &[u8], number: u64) -> Result<(), LabFault>
     ensures { OnOk result (text.new.items
@@ -93,7 +71,7 @@ fn put_answer(text: &mut Vec<u8>, line: &mut Line, answer: &Answer) -> Result<()
         Answer::Heard { word } => put_one(text, line, b"heard", *word),
         Answer::Empty => put(text, b"empty"),
         Answer::Waits => put(text, b"waits"),
-        Answer::Refused(refusal) => put_one(text, line, b"refused", number_of(*refusal)),
+        Answer::Refused(refusal) => put_one(text, line, b"refused", refusal.number() as u64),
     }
 }
 

@@ -8,6 +8,7 @@ use crate::programs::read_programs;
 use crate::questions::{AskedLine, read_questions};
 use crate::text::{UsersText, read_text};
 use crate::users::{add_programs, come_once, repeat, users_of};
+use mcs_explore_programs::Label;
 use mcs_explore_questions::{ExploreFault, There};
 use mcs_kernel::Boot;
 use mcs_lab_check::{LabFault, Names};
@@ -30,11 +31,12 @@ pub struct UserScript {
     pub names: Names,
 }
 
-/// The users of a script, and the text of each of their entries.
+/// The users of a script, the text of each of their entries, and the names of those of programs.
 #[derive(Drop)]
 struct UserTexts {
     users: Users,
     texts: Vec<EntryText>,
+    labels: Vec<Label>,
 }
 
 /// Reads the programs of a text, and returns its users with the texts of their entries. The
@@ -57,12 +59,18 @@ fn read_users(
         boot: boot.lines(),
         users: &users,
         names,
+        labels: &[],
     };
     let programs = read_programs(alloc, there, text)?;
-    let Ok(()) = add_programs(&mut users, &mut texts, programs) else {
+    let mut labels = Vec::new(alloc);
+    let Ok(()) = add_programs(&mut users, &mut texts, &mut labels, programs) else {
         return Err(ExploreFault::Lab(LabFault::OutOfMemory));
     };
-    Ok(UserTexts { users, texts })
+    Ok(UserTexts {
+        users,
+        texts,
+        labels,
+    })
 }
 
 /// Reads a source to its end. The faults are first those of `mcssim run`, in the order of lines,
@@ -80,11 +88,16 @@ pub fn read_script<R: Read>(alloc: Global, from: &mut Source<R>) -> Result<UserS
         Err(fault) => return Err(ExploreFault::Lab(LabFault::from(fault))),
     };
     let names = read_names(alloc, &text)?;
-    let UserTexts { mut users, texts } = read_users(alloc, &text, &boot, entries, &names)?;
+    let UserTexts {
+        mut users,
+        texts,
+        labels,
+    } = read_users(alloc, &text, &boot, entries, &names)?;
     let there = There {
         boot: boot.lines(),
         users: &users,
         names: &names,
+        labels: &labels,
     };
     let asked = read_questions(alloc, there, &text)?;
     repeat(alloc, &mut users, &asked)?;

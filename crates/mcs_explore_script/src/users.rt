@@ -6,7 +6,7 @@ ghost use Rattle.mcs_explore_script.specs.UserLists.{all_again, asked_again, wit
 
 use crate::marks::EntryText;
 use crate::questions::AskedLine;
-use mcs_explore_programs::{Program, ProgramEntry};
+use mcs_explore_programs::{Label, Program, ProgramEntry};
 use mcs_explore_questions::{Asked, ExploreFault, comes_once, goes_on_once};
 use mcs_text::UserEntry;
 use mcs_types::{ObjId, OutOfMemory};
@@ -56,10 +56,21 @@ fn add_entries(
     Ok(())
 }
 
-/// Adds a program, and the texts of its entries. OutOfMemory where memory was refused.
+/// Adds labels behind others. OutOfMemory where memory was refused.
+fn add_labels(all: &mut Vec<Label>, more: Vec<Label>) -> Result<(), OutOfMemory> {
+    for label in more {
+        if all.push(label).is_err() {
+            return Err(OutOfMemory);
+        }
+    }
+    Ok(())
+}
+
+/// Adds a program, the texts of its entries, and their names. OutOfMemory where memory was refused.
 fn add_program(
     users: &mut Users,
     texts: &mut Vec<EntryText>,
+    labels: &mut Vec<Label>,
     program: Program,
 ) -> Result<(), OutOfMemory>
     ensures { OnOk result (users.new ≡ with_one_program users.old program) }
@@ -69,23 +80,26 @@ fn add_program(
         entries,
         ops,
         fills,
-        names: _,
+        labels: more,
     } = program;
+    add_labels(labels, more)?;
     add_entries(users, texts, thread, entries)?;
     users.program(thread, ops, fills);
     Ok(())
 }
 
-/// Adds programs, and the texts of their entries. OutOfMemory where memory was refused.
+/// Adds programs, the texts of their entries, and their names. OutOfMemory where memory was
+/// refused.
 pub fn add_programs(
     users: &mut Users,
     texts: &mut Vec<EntryText>,
+    labels: &mut Vec<Label>,
     programs: Vec<Program>,
 ) -> Result<(), OutOfMemory>
     ensures { OnOk result (users.new ≡ with_programs users.old programs.items) }
 {
     for program in programs {
-        add_program(users, texts, program)?;
+        add_program(users, texts, labels, program)?;
     }
     Ok(())
 }

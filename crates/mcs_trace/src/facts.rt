@@ -5,33 +5,12 @@ ghost use Rattle.std.specs.Prelude.{◌≡◌, ◌≤◌, ◌+◌, ◌∷◌, �
 ghost use Rattle.mcs_trace.specs.Room.{Adds, HasRoom};
 ghost use Rattle.mcs_trace.specs.Reading.{IsMessageText};
 ghost use Rattle.mcs_text.specs.Spelling.{then_text, token_text};
-ghost use Rattle.mcs_text.specs.Table.{form, how_key, end_key, joins_form, refusal_number, form_text, fact_text, record_text};
+ghost use Rattle.mcs_text.specs.Table.{form, how_key, end_key, joins_form, form_text, fact_text, record_text};
 
 use crate::line::Line;
 use crate::rooms::{LINE, WORD};
 use mcs_text::{Key, Token};
-use mcs_types::{Cap, Ending, MESSAGE_WORDS, Mode, ObjId, Queue, Rec, Refusal, SendMode};
-
-/// The number of a refusal.
-pub fn number_of(refusal: Refusal) -> u64
-    ensures { result ≡ refusal_number refusal }
-{
-    match refusal {
-        Refusal::Missing => 1,
-        Refusal::DepthMismatch => 2,
-        Refusal::GuardMismatch => 3,
-        Refusal::WrongKind => 4,
-        Refusal::NoRight => 5,
-        Refusal::Range => 6,
-        Refusal::SlotFull => 7,
-        Refusal::SlotEmpty => 8,
-        Refusal::AlreadyBound => 9,
-        Refusal::NotBound => 10,
-        Refusal::NoRoom => 11,
-        Refusal::BadgeNotAllowed => 12,
-        Refusal::LastCNode => 13,
-    }
-}
+use mcs_types::{Cap, Ending, MESSAGE_WORDS, Mode, ObjId, Queue, Rec, SendMode};
 
 impl Line {
     /// Appends a line of one word.

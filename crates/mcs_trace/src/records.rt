@@ -7,7 +7,6 @@ ghost use Rattle.mcs_packing.specs.Packing.{Fits, IsMessageAt, IsOfBond, IsOfDeb
 ghost use Rattle.mcs_packing.specs.Entries.{EntryFits, entry_of};
 ghost use Rattle.mcs_packing.specs.Heads.{AnswerFits, answer_of};
 
-use crate::facts::number_of;
 use crate::line::Line;
 use crate::reading::ReadStep;
 use crate::rooms::LINE;
@@ -525,6 +524,6 @@ pub fn write_kept_answer(line: &mut Line, form: AnswerForm, at: u32, words: &[u6
         AnswerForm::Heard => line.numbered(Key::HeardWord, words[at as usize]),
         AnswerForm::Empty => line.bare(Key::Empty),
         AnswerForm::Waits => line.bare(Key::Waits),
-        AnswerForm::Refused(refusal) => line.numbered(Key::Refused, number_of(refusal)),
+        AnswerForm::Refused(refusal) => line.numbered(Key::Refused, refusal.number() as u64),
     }
 }

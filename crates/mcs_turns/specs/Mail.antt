@@ -1,10 +1,8 @@
 -- What reaches threads whose entries wait (own).
-use Rattle.std.specs.Prelude.{◌++◌, Bool, true, false, List, [], ◌∷◌, Option, Some, None}
+use Rattle.std.specs.Prelude.{◌++◌, List, [], ◌∷◌, Option, Some, None}
 use Rattle.mcs_types.specs.declared.id.ObjId.{ObjId}
 use Rattle.mcs_types.specs.declared.entry.Answer.{Answer}
 use Rattle.mcs_types.specs.declared.entry.Answer.TheVariants as answer
-use Rattle.mcs_types.specs.declared.entry.Entry.{Entry}
-use Rattle.mcs_types.specs.declared.entry.Entry.TheVariants as entry
 use Rattle.mcs_types.specs.declared.record.Mode.TheVariants as mode
 use Rattle.mcs_types.specs.declared.record.Rec.{Rec}
 use Rattle.mcs_types.specs.declared.record.Rec.TheVariants as rec
@@ -46,8 +44,3 @@ brought b = brought_by b.lines
     brought_by : List Line → List Reached
     brought_by [] = []
     brought_by (l ∷ ls) = reached_from None l.records
-
--- whether an entry is Send, whose thread goes on once its message is taken
-abbrev pub is_send : Entry → Bool
-is_send (entry.Send cap message) = true
-is_send e = false

@@ -1,13 +1,12 @@
 -- Programs: what a user does between its entries, by what the last one was told (own).
 use Rattle.std.specs.Prelude.{ℕ, zero, suc, ◌+◌, ◌%◌, ◌^◌, ◌==◌, ◌&&◌, Bool, true, false, cond, nat_lt, bit_and, set, position, option_map, unwrap_or, is_none, List, [], ◌∷◌, Option, Some, None, length, slice_get}
 use Rattle.mcs_types.specs.Limits.{label_bits}
+use Rattle.mcs_types.specs.Refusals.{refusal_number}
 use Rattle.mcs_types.specs.Views.{Content}
 use Rattle.mcs_types.specs.declared.entry.Answer.{Answer}
 use Rattle.mcs_types.specs.declared.entry.Answer.TheVariants as answer
 use Rattle.mcs_types.specs.declared.entry.Entry.{Entry}
 use Rattle.mcs_types.specs.declared.entry.Entry.TheVariants as entry
-use Rattle.mcs_types.specs.declared.entry.Refusal.{Refusal}
-use Rattle.mcs_types.specs.declared.entry.Refusal.TheVariants as refusal
 use Rattle.mcs_turns.specs.declared.program.Slot.{Slot}
 use Rattle.mcs_turns.specs.declared.program.Slot.TheVariants as slot
 use Rattle.mcs_turns.specs.declared.program.Saved.{Saved}
@@ -77,22 +76,6 @@ is_empty a = false
 abbrev pub is_done : Answer → Bool
 is_done answer.Done = true
 is_done a = false
-
--- the number of a refusal
-abbrev pub refusal_number : Refusal → ℕ
-refusal_number refusal.Missing = 1
-refusal_number refusal.DepthMismatch = 2
-refusal_number refusal.GuardMismatch = 3
-refusal_number refusal.WrongKind = 4
-refusal_number refusal.NoRight = 5
-refusal_number refusal.Range = 6
-refusal_number refusal.SlotFull = 7
-refusal_number refusal.SlotEmpty = 8
-refusal_number refusal.AlreadyBound = 9
-refusal_number refusal.NotBound = 10
-refusal_number refusal.NoRoom = 11
-refusal_number refusal.BadgeNotAllowed = 12
-refusal_number refusal.LastCNode = 13
 
 -- the number of the refusal that was told; 0 where none was
 abbrev pub refused_by : Answer → ℕ

@@ -17,6 +17,7 @@ use Rattle.mcs_book.specs.Pieces.{Outcome}
 use Rattle.mcs_book.specs.Picking.{GoesBefore}
 use Rattle.mcs_book.specs.Statuses.{status_of, may_enter}
 use Rattle.mcs_book.specs.Table.{does}
+use Rattle.mcs_types.specs.Changes.{is_send}
 use Rattle.mcs_turns.specs.declared.position.Position.{Position}
 use Rattle.mcs_turns.specs.declared.position.Pick.{Pick}
 use Rattle.mcs_turns.specs.declared.program.Fill.{Fill}
@@ -25,7 +26,7 @@ use Rattle.mcs_turns.specs.declared.program.Saved.{Saved}
 use Rattle.mcs_turns.specs.declared.program.Settled.{Settled}
 use Rattle.mcs_turns.specs.declared.reached.Reached.{Reached}
 use Rattle.mcs_turns.specs.Due.{due_by, begun, moved_past, stale_after, none_stale}
-use Rattle.mcs_turns.specs.Mail.{is_send, reached_from}
+use Rattle.mcs_turns.specs.Mail.{reached_from}
 use Rattle.mcs_turns.specs.Programs.{filled, goes_on, nothing_saved, starts}
 
 -- a thread, its entries, the number of the entry with which a list goes on after the last (none

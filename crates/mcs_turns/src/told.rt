@@ -3,7 +3,7 @@
 ghost use Rattle.std.specs.Prelude.{◌≡◌, []};
 ghost use Rattle.mcs_types.specs.declared.entry.Answer.TheVariants as answer;
 ghost use Rattle.mcs_turns.specs.Told.{answer_of};
-ghost use Rattle.mcs_turns.specs.Programs.{badge_told, is_done, is_empty, is_got, is_heard, label_told, refusal_number, refused_by, word_told};
+ghost use Rattle.mcs_turns.specs.Programs.{badge_told, is_done, is_empty, is_got, is_heard, label_told, refused_by, word_told};
 
 use mcs_types::{Answer, Badge, Refusal};
 use std::marker::Model;
@@ -36,27 +36,6 @@ impl<'a> Model for Told<'a> {
     ghost Value = { Answer };
 
     ghost view = { λ t. answer_of t.form t.word t.label t.words.now };
-}
-
-/// The number of a refusal.
-fn refusal_number(refusal: Refusal) -> u8
-    ensures { result ≡ refusal_number refusal }
-{
-    match refusal {
-        Refusal::Missing => 1,
-        Refusal::DepthMismatch => 2,
-        Refusal::GuardMismatch => 3,
-        Refusal::WrongKind => 4,
-        Refusal::NoRight => 5,
-        Refusal::Range => 6,
-        Refusal::SlotFull => 7,
-        Refusal::SlotEmpty => 8,
-        Refusal::AlreadyBound => 9,
-        Refusal::NotBound => 10,
-        Refusal::NoRoom => 11,
-        Refusal::BadgeNotAllowed => 12,
-        Refusal::LastCNode => 13,
-    }
 }
 
 impl<'a> Told<'a> {
@@ -176,7 +155,7 @@ impl<'a> Told<'a> {
         ensures { result ≡ refused_by self.now }
     {
         match self.form {
-            Form::Refused(refusal) => refusal_number(refusal),
+            Form::Refused(refusal) => refusal.number(),
             Form::Done | Form::Waits | Form::Got | Form::Heard | Form::Empty => 0,
         }
     }

@@ -1,7 +1,7 @@
 -- What entries may change.
 use Rattle.std.specs.Prelude.{Bool, true, false}
 use Rattle.mcs_types.specs.declared.entry.Entry.{Entry}
-use Rattle.mcs_types.specs.declared.entry.Entry.TheVariants.{CopyCap, MintCap, MoveCap, DeleteCap, MakeEndpoint, MakeNotification, MakeReply, MakeContext}
+use Rattle.mcs_types.specs.declared.entry.Entry.TheVariants.{Send, CopyCap, MintCap, MoveCap, DeleteCap, MakeEndpoint, MakeNotification, MakeReply, MakeContext}
 
 -- whether it makes an object
 abbrev pub makes_object : Entry → Bool
@@ -10,6 +10,11 @@ makes_object (MakeNotification place) = true
 makes_object (MakeReply place) = true
 makes_object (MakeContext place) = true
 makes_object _ = false
+
+-- whether it is Send, whose thread goes on once its message is taken
+abbrev pub is_send : Entry → Bool
+is_send (Send cap message) = true
+is_send _ = false
 
 -- whether it may change slots
 abbrev pub changes_slots : Entry → Bool

@@ -1,12 +1,11 @@
 //! Where users are: a list goes from entry to entry, a program by what its last entry was told.
 ghost use Rattle.std.specs.Prelude.{◌≡◌, ◌<◌, length, slice_get};
-ghost use Rattle.mcs_turns.specs.Mail.{is_send};
 ghost use Rattle.mcs_turns.specs.Programs.{goes_on};
 ghost use Rattle.mcs_turns.specs.Turns.{behind, comes_of, gone_on, current, is_send_at, listed_behind, started, told, waiting_behind, waits_with};
 
 use crate::lists::UserList;
 use mcs_turns::{Position, Saved, Settled, Told, goes_on, starts};
-use mcs_types::{Answer, Entry};
+use mcs_types::Answer;
 
 /// The position from which a program goes on; that of a list where there is no program.
 fn gone_on(settled: Option<Settled>, user: &UserList, place: Position) -> Position
@@ -111,19 +110,12 @@ pub fn place_behind(user: &UserList, number: usize, saved: Saved, answer: &Answe
     }
 }
 
-/// Whether an entry is Send, whose thread goes on once its message is taken.
-fn is_send(entry: &Entry) -> bool
-    ensures { result ≡ is_send entry.now }
-{
-    matches!(entry, Entry::Send { .. })
-}
-
-/// Whether the entry of a user with this number is Send.
-fn is_send_at(user: &UserList, number: usize) -> bool
+/// Returns whether the entry of a user with this number is Send.
+pub fn is_send_at(user: &UserList, number: usize) -> bool
     ensures { result ≡ is_send_at user.now number }
 {
     match user.at(number) {
-        Some(entry) => is_send(entry),
+        Some(entry) => entry.is_send(),
         None => false,
     }
 }
