@@ -35,6 +35,7 @@ SOURCES = {
     "mcs-plan": [
         ("mcs_plan_source/src/reading.rt", r'^ +"(\w+)" =>'),
         ("mcs_plan_source/src/reading.rt", r'(?:word == |expect\(alloc, )"(\w+)"'),
+        ("mcs_plan_compile/src/compiling.rt", r'first == "(program)"'),
     ],
 }
 

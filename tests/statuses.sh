@@ -37,7 +37,7 @@ ends 1 '' state --stuck $script
 ends 2 'mcslab: line 2: fault 2: no form fits' check "$work/refused.mcs"
 bails 'line 2: no form fits'
 ends 2 'mcslab: line 2: no question' check tests/lab/no-question.mcs
-for command in check why state json draw explore compile; do
+for command in check why state json draw explore walk compile; do
     ends 8 'read fault' $command <"$work"
 done
 ends 8 'read fault' check <"$work"
@@ -46,13 +46,16 @@ status=0
 "$program" check tests/lab/trace.mcs 2>"$work/told" >/dev/full || status=$?
 [ $status -eq 4 ] && grep -q 'write fault' "$work/told" || { echo "statuses.sh: no write fault, but status $status"; exit 1; }
 ends 3 '' explore --states 2 examples/explore/mutex.mcs
-for command in check why state json draw explore compile names; do
+ends 0 '' walk --seed 7 --turns 5 examples/explore/mutex.mcs
+ends 2 'mcslab: line 2: fault 2: no form fits' walk "$work/refused.mcs"
+ends 64 '-1' walk --seed=-1 examples/explore/mutex.mcs
+for command in check why state json draw explore walk compile names; do
     ends 64 'No such file' $command "$work/none" </dev/null
     ends 64 'Is a directory' $command "$work" </dev/null
 done
 if [ "$(id -u)" -ne 0 ]; then
     chmod 0 "$work/closed.mcs"
-    for command in check why state json draw explore compile names; do
+    for command in check why state json draw explore walk compile names; do
         ends 64 'Permission denied' $command "$work/closed.mcs" </dev/null
     done
 fi

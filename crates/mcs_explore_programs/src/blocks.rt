@@ -33,8 +33,8 @@ pub enum Shape {
     Arms(Arms),
 }
 
-/// A block, the line of the script that opened it, how many words were kept before it, and the place
-/// of its name, if it has one.
+/// A block, the line of the script that opened it, how many words were kept before it, and the
+/// place of its name, if it has one.
 #[derive(Drop)]
 pub struct Block {
     pub line: u64,

@@ -22,7 +22,7 @@ pub enum ProgramFault {
     TooMany { word: Word },
     #[error("{word} is not {wanted}")]
     Not { word: Word, wanted: &'static str },
-    #[error("{word} is no test; tests are: {there}")]
+    #[error("{word} is none of the tests, which are: {there}")]
     NoTest { word: Word, there: &'static str },
     #[error("{word} closes no block")]
     NoBlock { word: Word },

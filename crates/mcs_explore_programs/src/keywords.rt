@@ -44,11 +44,8 @@ impl Keyword {
             Keyword::Forever | Keyword::While | Keyword::Repeat | Keyword::If | Keyword::Open => {
                 true
             }
-            Keyword::Let
-            | Keyword::Close
-            | Keyword::Break
-            | Keyword::Continue
-            | Keyword::Stop => false,
+            Keyword::Let | Keyword::Close | Keyword::Break | Keyword::Continue | Keyword::Stop =>
+                false,
         }
     }
 }

@@ -22,8 +22,8 @@ const LINES: usize = 4096;
 /// How deep blocks are at most.
 const DEPTH: usize = 32;
 
-/// The name of an entry of a thread, or of a block, and the numbers of its first and its last entry,
-/// from 1 on.
+/// The name of an entry of a thread, or of a block, and the numbers of its first and its last
+/// entry, from 1 on.
 #[derive(Drop)]
 pub struct Label {
     pub thread: ObjId,

@@ -20,4 +20,3 @@ pub mod Judged
 pub mod Holding
 pub mod Refuting
 mod Slotting
-mod Scripting

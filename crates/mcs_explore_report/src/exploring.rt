@@ -12,10 +12,9 @@ ghost use Rattle.mcs_explore_report.specs.Modes.{IsWholeSearch, mode_of};
 ghost use Rattle.mcs_explore_report.specs.Stuck.{AreDecided, AreStuckUnled};
 
 use crate::modes::mode_of;
-use crate::scripts::fault_of;
 use crate::watching::{Progress, Watched};
 use mcs_explore_orders::{Budget, Orders, Users, explore};
-use mcs_explore_script::{AskedLine, Live};
+use mcs_explore_script::{AskedLine, Live, fault_of};
 use mcs_kernel::Boot;
 use mcs_lab_check::LabFault;
 use mcs_types::Entry;

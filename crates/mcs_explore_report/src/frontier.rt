@@ -4,9 +4,8 @@ ghost use Rattle.std.specs.Prelude.{IfOk, OnOk};
 ghost use Rattle.mcs_explore_report.specs.Ends.{AreRunEnds};
 
 use crate::ends::{End, Ends};
-use crate::scripts::fault_of;
 use mcs_explore_orders::{Orders, OrdersFault, Turn, Walk, Watch, retrace};
-use mcs_explore_script::UserScript;
+use mcs_explore_script::{UserScript, fault_of};
 use mcs_lab_check::LabFault;
 use mcs_queues::PlainLines;
 use std::alloc::Global;

@@ -9,8 +9,8 @@ use mcs_explore_orders::{OrdersFault, Turn, Users, Walk};
 use mcs_explore_walk::newest;
 use mcs_queues::PlainLines;
 use mcs_turns::{Pick, Reached};
-use mcs_users::is_send_at;
 use mcs_types::{Answer, Badge, Mode, ObjId, Rec};
+use mcs_users::is_send_at;
 use std::alloc::Global;
 
 /// What a taker gets of the message that a line sent last, with a record more.

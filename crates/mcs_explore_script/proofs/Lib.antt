@@ -1,3 +1,4 @@
 pub mod ProgramLines
+mod RunTexts
 pub mod StepLines
 pub mod Texts

@@ -5,3 +5,4 @@ pub mod UserLists
 pub mod Lives
 pub mod Scripts
 pub mod Steps
+pub mod RunTexts

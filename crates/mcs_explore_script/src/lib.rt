@@ -9,6 +9,7 @@
 //!     ── users ──> a list of entries for each thread, the entry with which it goes on again, or
 //!          its program
 //! a book ── steps ──> its boot and its steps, each with its answer
+//!     ── run_texts ──> the script that shows a run
 //! ```
 #![tactic(auto)]
 
@@ -16,6 +17,7 @@ mod lives;
 mod marks;
 mod programs;
 mod questions;
+mod run_texts;
 mod script;
 mod steps;
 mod text;
@@ -24,5 +26,6 @@ mod users;
 pub use lives::Live;
 pub use marks::EntryText;
 pub use questions::AskedLine;
+pub use run_texts::{fault_of, run_text};
 pub use script::{UserScript, read_script};
 pub use steps::write_steps;

@@ -1,15 +1,11 @@
 -- The newest line of a book, and what it brought to threads.
-use Rattle.std.specs.Prelude.{ℕ, zero, suc, ◌≡◌, ◌+◌, ◌-◌, ◌==◌, ◌++◌, Bool, false, cond, drop, List, [], ◌∷◌, Option, Some, None, length, reverse, slice_get}
-use Rattle.std.proofs.Common.{refl, ap, sym, ◌∙◌, append_assoc, arith}
+use Rattle.std.specs.Prelude.{◌≡◌, ◌-◌, ◌==◌, ◌++◌, Bool, false, cond, List, [], ◌∷◌, Some, None, length, reverse, slice_get}
+use Rattle.std.proofs.Common.{refl, ap, sym, ◌∙◌, arith}
 use Rattle.std.proofs.lemmas.Bool.{ne_eqb}
 use Rattle.std.proofs.lemmas.List.{length-reverse}
 use mathlib.Core.List.{reverse-cons}
 use Rattle.mcs_book.specs.History.{Book, Line, line_of_number}
-use Rattle.mcs_types.specs.declared.entry.Answer.{Answer}
-use Rattle.mcs_types.specs.declared.record.Rec.{Rec}
-use Rattle.mcs_turns.specs.declared.reached.Reached.{Reached}
-use Rattle.mcs_turns.specs.Mail.{brought, got_with, listed, reached_from, reaching}
-use Rattle.mcs_explore_walk.proofs.Picking.{drop-at}
+use Rattle.mcs_turns.specs.Mail.{brought, reached_from}
 
 pub at-last : {A : Type 0} (xs : List A) (x : A) → slice_get (xs ++ x ∷ []) (length xs) ≡ Some x
 at-last [] x = refl

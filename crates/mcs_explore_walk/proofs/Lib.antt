@@ -1,5 +1,5 @@
 mod Walking
 mod Picking
-mod Turning
+pub mod Turning
 pub mod LastLine
 mod Telling

@@ -15,7 +15,7 @@ use Rattle.mcs_book.specs.Statuses.{may_enter}
 use Rattle.mcs_book.proofs.Books.KnownCores.{legal-cores}
 use Rattle.mcs_turns.specs.declared.position.Pick.{Pick}
 use Rattle.mcs_turns.specs.Due.{is_same}
-use Rattle.mcs_turns.specs.Turns.{User, Going, AreApart, ArePicks, Follows, IsOver, IsStale, IsTurn, entered, given, outcome}
+use Rattle.mcs_turns.specs.Turns.{User, Going, AreApart, ArePicks, IsOver, IsStale, IsTurn, entered, given, outcome}
 use Rattle.mcs_turns.proofs.OneTurn.{one-at, one-picks}
 use Rattle.mcs_explore_walk.specs.declared.walk.Turn.{Turn}
 use Rattle.mcs_explore_walk.specs.Walks.{IsEntrant, IsPicked, HasEachTurn, ArePicked, HasNoTurn, is_other, picked_of, stale_turns, step_of, turn_now, turn_of, turns_below, turns_of, turns_on}

@@ -452,7 +452,7 @@ impl<L: Lines> Walk<L> {
     }
 
     /// Returns whether the rule has a turn, where the cores have these picks.
-    fn has_turn(&self, users: &Users, picks: &[Option<Pick>], turn: Turn) -> bool
+    pub fn has_turn(&self, users: &Users, picks: &[Option<Pick>], turn: Turn) -> bool
         requires { ArePicks users.now self.now picks.now }
         ensures yes { result ≡ true → (h : Going)
             × IsTurn users.now turn.core turn.pick self.now h }

@@ -4,3 +4,4 @@ pub mod Fielded
 pub mod Opened
 pub mod Said
 pub mod Taken
+pub mod Zeroed

@@ -10,13 +10,10 @@ use Rattle.mcs_plan_source.specs.declared.plan.Plan.{Plan}
 use Rattle.mcs_plan_source.specs.Saying.{SaidPassive, said, said_passive}
 use Rattle.mcs_plan_layout.specs.Laid.{LaidPlan}
 use Rattle.mcs_plan_compile.specs.declared.compiling.Entries.{Entries}
-use Rattle.mcs_plan_compile.specs.declared.compiling.Entries.TheVariants.{Nothing}
 use Rattle.mcs_plan_compile.specs.declared.compiling.Opening.{Opening}
 use Rattle.mcs_plan_compile.specs.declared.steps.Head.{Head}
-use Rattle.mcs_plan_compile.specs.Opening.{step_added, starter_head, leave_text, both_added, opened_at, opened_by, openings_said, left_said, opened_said, behind_said, IsOpeningOf, IsOpeningAt}
+use Rattle.mcs_plan_compile.specs.Opening.{step_added, starter_head, leave_text, both_added, opened_at, opened_by, openings_said, left_said, opened_said, steps_said, behind_said, IsOpeningOf, IsOpeningAt}
 use Rattle.mcs_plan_compile.specs.Reading.{ReadAt, RefusesAt, at_line, and_then}
-use Rattle.mcs_plan_compile.specs.StepLines.{lines_taken}
-use Rattle.mcs_plan_compile.specs.Stepping.{count_before}
 
 -- what was made of the thread at a place
 pub opening_there : (plan : Plan) (i : ℕ) (p : Passive) (o : Opening) → i < length plan.passives.items → p ≡ get_or plan.passives.items i p
@@ -104,10 +101,10 @@ left_refused {T} laid head r fault some who told line is e tells =
 
 -- the steps that make threads passive, and then the lines
 abbrev with_lines : LaidPlan → List (List ℕ) → ReadAt (Unit {0}) → ReadAt Entries
-with_lines laid found r = and_then r (λ done. lines_taken laid (count_before found) (drop (count_before found) found) Nothing)
+with_lines laid found r = and_then r (λ done. steps_said laid found)
 
 pub behind_opened : (laid : LaidPlan) (found : List (List ℕ)) → opened_said laid ≡ Ok tt
-    → behind_said laid found ≡ lines_taken laid (count_before found) (drop (count_before found) found) Nothing
+    → behind_said laid found ≡ steps_said laid found
 behind_opened laid found is = ap (with_lines laid found) is
 
 pub not_opened : (laid : LaidPlan) (found : List (List ℕ)) (fault : PlanFault) → RefusesAt (opened_said laid) fault → RefusesAt (behind_said laid found) fault

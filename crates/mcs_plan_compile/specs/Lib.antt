@@ -3,6 +3,7 @@ pub mod Fields
 pub mod Heads
 pub mod Mixing
 pub mod Opening
+pub mod Programs
 pub mod Reading
 pub mod Scripts
 pub mod StepLines

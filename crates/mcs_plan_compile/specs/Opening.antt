@@ -13,6 +13,7 @@ use Rattle.mcs_plan_compile.specs.declared.compiling.Entries.TheVariants as entr
 use Rattle.mcs_plan_compile.specs.declared.compiling.Opening.{Opening}
 use Rattle.mcs_plan_compile.specs.declared.steps.Head.{Head}
 use Rattle.mcs_plan_compile.specs.Heads.{step_read}
+use Rattle.mcs_plan_compile.specs.Programs.{all_closed}
 use Rattle.mcs_plan_compile.specs.Reading.{ReadAt, at_line, and_then}
 use Rattle.mcs_plan_compile.specs.Stepping.{count_before}
 use Rattle.mcs_plan_compile.specs.StepLines.{core_of, lines_taken}
@@ -90,13 +91,18 @@ left_said laid (p ∷ ps) = at_line 0 (step_added laid (starter_head laid.plan) 
 abbrev pub opened_said : LaidPlan → ReadAt (Unit {0})
 opened_said laid = and_then (openings_said laid laid.plan.passives) (λ done. left_said laid laid.plan.passives)
 
+-- the lines from the first step on, at whose end no program is open
+abbrev pub steps_said : LaidPlan → List (List ℕ) → ReadAt Entries
+steps_said laid found =
+    and_then (lines_taken laid (count_before found) (drop (count_before found) found) entries.Nothing) (λ e. at_line (length found) (all_closed e))
+
 -- all after the lines before the first step
 abbrev pub behind_said : LaidPlan → List (List ℕ) → ReadAt Entries
-behind_said laid found =
-    and_then (opened_said laid) (λ done. lines_taken laid (count_before found) (drop (count_before found) found) entries.Nothing)
+behind_said laid found = and_then (opened_said laid) (λ done. steps_said laid found)
 
 -- whether lines of users followed
 abbrev pub are_users : Entries → Bool
 are_users entries.Nothing = false
 are_users entries.Steps = false
 are_users entries.Users = true
+are_users (entries.Program thread blocks) = true

@@ -14,9 +14,11 @@ use Rattle.mcs_plan_source.specs.Words.{word_then, behind, end_of, number_then}
 use Rattle.mcs_plan_layout.specs.Laid.{LaidPlan}
 use Rattle.mcs_plan_layout.specs.Naming.{cores_of}
 use Rattle.mcs_plan_compile.specs.declared.compiling.Entries.{Entries}
+use Rattle.mcs_plan_compile.specs.declared.compiling.Entries.TheVariants as entries
 use Rattle.mcs_plan_compile.specs.declared.steps.Head.{Head}
 use Rattle.mcs_plan_compile.specs.Heads.{step_read}
 use Rattle.mcs_plan_compile.specs.Mixing.{is_any, is_steps, goes_on}
+use Rattle.mcs_plan_compile.specs.Programs.{program_begun, program_taken}
 use Rattle.mcs_plan_compile.specs.Reading.{ReadAt, at_line, and_then, short}
 use Rattle.mcs_plan_compile.specs.Stepping.{cut_at_colon}
 use Rattle.mcs_plan_compile.specs.Wanting.{wanted_read}
@@ -72,12 +74,16 @@ head_read laid words = do
   head_by laid first rest
 
 -- a step or a line of a user
-abbrev pub entry_taken : LaidPlan → Entries → Option (List ℕ × List ℕ) → Read Entries
-entry_taken laid e None = Err late
-entry_taken laid e (Some p) = do
+abbrev pub entry_taken : LaidPlan → Entries → List ℕ × List ℕ → Read Entries
+entry_taken laid e p = do
   head ← head_read laid (words_of p.0)
   line ← step_read laid head (words_of p.1)
   goes_on laid e head.core
+
+-- the same, or the first line of a program, which has no colon
+abbrev pub headed_taken : LaidPlan → Entries → List ℕ → List (List ℕ) → Option (List ℕ × List ℕ) → Read Entries
+headed_taken laid e first rest (Some p) = entry_taken laid e p
+headed_taken laid e first rest None = if bytes_eq first (codes "program") then program_begun laid e rest else Err late
 
 -- what is wanted of the step before
 abbrev pub wanted_taken : LaidPlan → Entries → List (List ℕ) → Read Entries
@@ -87,14 +93,19 @@ wanted_taken laid e words = do
   short text
   Ok e
 
+-- what a line outside of programs says, by its words
+abbrev pub words_taken : LaidPlan → Entries → List ℕ → List ℕ → List (List ℕ) → Read Entries
+words_taken laid e code first rest =
+    if bytes_eq first (codes "?") then wanted_taken laid e rest else headed_taken laid e first rest (cut_at_colon code)
+
 -- what a line says beside its comment, by its words
-abbrev pub words_taken : LaidPlan → Entries → List ℕ → List (List ℕ) → Read Entries
-words_taken laid e code [] = Ok e
-words_taken laid e code (first ∷ rest) =
-    if bytes_eq first (codes "?") then wanted_taken laid e rest else entry_taken laid e (cut_at_colon code)
+abbrev pub said_taken : LaidPlan → Entries → List ℕ → List (List ℕ) → Read Entries
+said_taken laid e code [] = Ok e
+said_taken laid (entries.Program t blocks) code (first ∷ rest) = program_taken laid t blocks (first ∷ rest)
+said_taken laid e code (first ∷ rest) = words_taken laid e code first rest
 
 abbrev pub code_taken : LaidPlan → Entries → List ℕ → Read Entries
-code_taken laid e code = words_taken laid e code (words_of code)
+code_taken laid e code = said_taken laid e code (words_of code)
 
 -- a line after those before the first step
 abbrev pub line_taken : LaidPlan → Entries → List ℕ → Read Entries

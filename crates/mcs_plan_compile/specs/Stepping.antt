@@ -1,5 +1,5 @@
 -- Which lines of a plan are those of steps and users.
-use Rattle.std.specs.Prelude.{ℕ, Bool, false, ◌&&◌, ◌||◌, ◌==◌, cond, List, [], ◌∷◌, drop, Option, Some, None, is_some, option_map}
+use Rattle.std.specs.Prelude.{ℕ, Bool, true, false, ◌&&◌, ◌||◌, ◌==◌, cond, List, [], ◌∷◌, codes, bytes_eq, take, drop, Option, Some, None, is_some, option_map}
 use Rattle.std.specs.List.{position_or_len}
 use Rattle.mcs_plan_source.specs.Cutting.{is_white, code_of}
 
@@ -19,9 +19,22 @@ abbrev pub asks : List ℕ → Bool
 asks [] = false
 asks (b ∷ bs) = cond (is_white b) (asks bs) (b == 63)
 
--- whether a line is that of a step, of a user, or of what is wanted
+-- whether a text is `program`, with white space behind it or nothing
+abbrev pub is_program_word : List ℕ → Bool
+is_program_word bytes = bytes_eq (take 7 bytes) (codes "program") && begins_white (drop 7 bytes)
+  where
+    begins_white : List ℕ → Bool
+    begins_white [] = true
+    begins_white (b ∷ bs) = is_white b
+
+-- whether the first word is `program`
+abbrev pub begins_program : List ℕ → Bool
+begins_program [] = false
+begins_program (b ∷ bs) = cond (is_white b) (begins_program bs) (is_program_word (b ∷ bs))
+
+-- whether a line is that of a step, of a user, or of what is wanted, or the first of a program
 abbrev pub begins_steps : List ℕ → Bool
-begins_steps line = is_some (cut_at_colon (code_of line)) || asks (code_of line)
+begins_steps line = is_some (cut_at_colon (code_of line)) || (asks (code_of line) || begins_program (code_of line))
 
 -- how many lines are before the first of these
 abbrev pub count_before : List (List ℕ) → ℕ

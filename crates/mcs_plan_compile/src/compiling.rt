@@ -10,31 +10,45 @@ ghost use Rattle.mcs_plan_layout.specs.Laid.{laid_said};
 ghost use Rattle.mcs_plan_compile.specs.declared.compiling.Entries.TheVariants.{Nothing};
 ghost use Rattle.mcs_plan_compile.specs.Mixing.{is_steps, goes_on};
 ghost use Rattle.mcs_plan_compile.specs.Opening.{receive_text, receive_head, starter_head, name_or_none, context_in, unbind_text, step_added, both_added, IsOpeningOf, IsOpeningAt};
-ghost use Rattle.mcs_plan_compile.specs.Opening.{opened_at, openings_said, left_said, opened_said, behind_said, are_users};
+ghost use Rattle.mcs_plan_compile.specs.Opening.{opened_at, openings_said, left_said, opened_said, steps_said, behind_said, are_users};
+ghost use Rattle.mcs_plan_compile.specs.Programs.{all_closed, program_begun, program_ended, program_taken, statement_taken};
 ghost use Rattle.mcs_plan_compile.specs.Reading.{RefusesAt, at_line, line_said, lines_said, plan_said};
 ghost use Rattle.mcs_plan_compile.specs.Scripts.{HasBootOfPlan, HasStepsOf, HasPlanOfLines, HasPlanOf};
-ghost use Rattle.mcs_plan_compile.specs.StepLines.{entry_taken, wanted_taken, code_taken, line_taken, lines_taken};
+ghost use Rattle.mcs_plan_compile.specs.StepLines.{entry_taken, headed_taken, wanted_taken, words_taken, code_taken, line_taken, lines_taken};
 ghost use Rattle.mcs_plan_compile.specs.Stepping.{count_before, cut_at_colon};
 ghost use Rattle.mcs_plan_compile.specs.Telling.{RefusesLaid, TellsLines, TellsPlan, few_lines, lines_in};
 
 use crate::lines::{add_comment, count_before, is_short, line_of, lines_of, split_colon};
+use crate::programs::{
+    fault_of, is_end, open_behind, open_still, program_head, program_line, statement_text,
+};
 use crate::script::Script;
 use crate::steps::{Head, object_text, read_head, write_entry};
 use crate::wanting::read_wanted;
+use mcs_explore_programs::{FaultyLine, ProgramLines};
 use mcs_plan_layout::Laid;
-use mcs_plan_source::{Names, Passive, Plan, PlanFault, Why, split_comment, split_words};
+use mcs_plan_source::{Names, Passive, Plan, PlanFault, Why, Words, split_comment, split_words};
 use mcs_types::{CoreId, Kind, ObjId};
 use std::alloc::{AllocError, Global};
 
 /// How many lines a plan may have (own): a script's may have 2,000,000.
 const LINES: usize = 900_000;
 
-/// Whether steps or lines of users came so far.
+/// What came so far: steps, or lines and programs of users.
 #[derive(Clone, Copy)]
 enum Entries {
     Nothing,
     Steps,
     Users,
+    /// A program, and how many of its blocks are open.
+    Program { thread: ObjId, blocks: usize },
+}
+
+/// A program that is open, and the line in which it begins.
+#[derive(Drop)]
+struct OpenProgram {
+    opened: u64,
+    lines: ProgramLines,
 }
 
 /// A plan whose boot is read, and the lines after it so far.
@@ -43,6 +57,25 @@ struct Compiler {
     laid: Laid,
     lines: Vec<String>,
     entries: Entries,
+    program: Option<OpenProgram>,
+    /// The threads that have a program, and those with lines of users.
+    programs: Vec<ObjId>,
+    users: Vec<ObjId>,
+}
+
+/// Whether a thread is one of these.
+fn has_thread(threads: &[ObjId], thread: ObjId) -> bool {
+    threads.iter().any(|other| other.is_same(thread))
+}
+
+/// Fails with what a program tells of its line.
+fn told(alloc: Global, done: Result<(), FaultyLine>) -> Result<(), Why>
+    ensures { IfErr result (λ w. told_by w ≡ None) }
+{
+    match done {
+        Ok(()) => Ok(()),
+        Err(fault) => Err(fault_of(alloc, fault.why)),
+    }
 }
 
 /// A fault, with its line.
@@ -295,20 +328,177 @@ impl Compiler {
         }
     }
 
+    /// Notes that a thread has a line of a user. A fault where it has a program.
+    fn note_user(&mut self, alloc: Global, head: Head) -> Result<(), Why>
+        ensures told { IfErr result (λ w. told_by w ≡ None) }
+        ensures laid { self.new.laid ≡ self.old.laid }
+        ensures entries { self.new.entries ≡ self.old.entries }
+    {
+        if head.core.is_some() {
+            return Ok(());
+        }
+        if has_thread(&self.programs, head.thread) {
+            return Err(both_kinds(alloc)?);
+        }
+        if !has_thread(&self.users, head.thread) {
+            self.users.push(head.thread)?;
+        }
+        Ok(())
+    }
+
     /// Adds the line of a step or of a user.
     fn add_entry(&mut self, alloc: Global, head: &str, text: &str) -> Result<(), Why>
         ensures taken { OnOk result (entry_taken (laid_said self.old.laid) self.old.entries
-            (Some (head.now, text.now)) ≡ Ok self.new.entries) }
+            (head.now, text.now) ≡ Ok self.new.entries) }
         ensures told { IfErr result (Refuses (entry_taken (laid_said self.old.laid) self.old.entries
-            (Some (head.now, text.now)))) }
+            (head.now, text.now))) }
         ensures laid { self.new.laid ≡ self.old.laid }
     {
         let head = read_head(alloc, &self.laid, head)?;
         let words = split_words(alloc, text)?;
         let line = write_entry(alloc, &self.laid, head, &words)?;
         self.goes_with(head)?;
+        self.note_user(alloc, head)?;
         self.lines.push(line)?;
         Ok(())
+    }
+
+    /// Begins the program of a thread. A fault where it has one, or lines of a user.
+    fn open_program(&mut self, alloc: Global, thread: ObjId, number: u64) -> Result<(), Why>
+        ensures told { IfErr result (λ w. told_by w ≡ None) }
+        ensures laid { self.new.laid ≡ self.old.laid }
+    {
+        if has_thread(&self.programs, thread) || has_thread(&self.users, thread) {
+            return Err(both_kinds(alloc)?);
+        }
+        self.programs.push(thread)?;
+        self.program = Some(OpenProgram {
+            opened: number,
+            lines: ProgramLines::new(alloc, thread),
+        });
+        Ok(())
+    }
+
+    /// Takes the first line of a program, whose words behind `program` are these.
+    fn begin_program(&mut self, alloc: Global, number: u64, words: &[&str]) -> Result<(), Why>
+        ensures taken { OnOk result (program_begun (laid_said self.old.laid) self.old.entries
+            (texts words.now) ≡ Ok self.new.entries) }
+        ensures told { IfErr result
+            (Refuses (program_begun (laid_said self.old.laid) self.old.entries (texts words.now))) }
+        ensures laid { self.new.laid ≡ self.old.laid }
+    {
+        let mut words = Words::new(words);
+        let thread = program_head(alloc, &self.laid, &mut words)?;
+        self.goes_with(Head { thread, core: None })?;
+        self.open_program(alloc, thread, number)?;
+        self.entries = Entries::Program { thread, blocks: 0 };
+        Ok(())
+    }
+
+    /// Has the program of a thread take a statement, and adds its line, inside of so many blocks.
+    fn add_statement(
+        &mut self,
+        alloc: Global,
+        number: u64,
+        within: (ObjId, usize),
+        text: &str,
+    ) -> Result<(), Why>
+        ensures told { IfErr result (λ w. told_by w ≡ None) }
+        ensures laid { self.new.laid ≡ self.old.laid }
+        ensures entries { self.new.entries ≡ self.old.entries }
+    {
+        if let Some(program) = &mut self.program {
+            told(alloc, program.lines.take(number, text.as_bytes()))?;
+        }
+        let name = self.laid.plan.names.name_of(within.0);
+        let line = program_line(alloc, name, within.1, text)?;
+        self.lines.push(line)?;
+        Ok(())
+    }
+
+    /// Takes a statement inside of a program.
+    fn take_statement(
+        &mut self,
+        alloc: Global,
+        number: u64,
+        within: (ObjId, usize),
+        words: &[&str],
+    ) -> Result<(), Why>
+        ensures taken { OnOk result (statement_taken (laid_said self.old.laid) within.0 within.1
+            (texts words.now) ≡ Ok self.new.entries) }
+        ensures told { IfErr result (Refuses
+            (statement_taken (laid_said self.old.laid) within.0 within.1 (texts words.now))) }
+        ensures laid { self.new.laid ≡ self.old.laid }
+    {
+        let (thread, blocks) = within;
+        let text = statement_text(alloc, &self.laid, thread, words)?;
+        let still = open_still(blocks, words);
+        let blocks = open_behind(blocks, words)?;
+        self.add_statement(alloc, number, (thread, still), text.as_str())?;
+        self.entries = Entries::Program { thread, blocks };
+        Ok(())
+    }
+
+    /// Ends the program. A fault where it has no entry.
+    fn close_program(&mut self, alloc: Global) -> Result<(), Why>
+        ensures told { IfErr result (λ w. told_by w ≡ None) }
+        ensures laid { self.new.laid ≡ self.old.laid }
+    {
+        let Some(program) = self.program.take() else {
+            return Ok(());
+        };
+        match program.lines.end() {
+            Ok(_) => Ok(()),
+            Err(fault) => Err(fault_of(alloc, fault.why)),
+        }
+    }
+
+    /// Takes the last line of a program.
+    fn end_program(&mut self, alloc: Global, words: &[&str]) -> Result<(), Why>
+        ensures taken { OnOk result (program_ended (texts words.now) ≡ Ok self.new.entries) }
+        ensures told { IfErr result (Refuses (program_ended (texts words.now))) }
+        ensures laid { self.new.laid ≡ self.old.laid }
+    {
+        let mut left = Words::new(words);
+        left.next();
+        left.end(alloc)?;
+        self.close_program(alloc)?;
+        self.entries = Entries::Users;
+        Ok(())
+    }
+
+    /// Takes a line of a program.
+    fn take_program(
+        &mut self,
+        alloc: Global,
+        number: u64,
+        within: (ObjId, usize),
+        words: &[&str],
+    ) -> Result<(), Why>
+        ensures taken { OnOk result (program_taken (laid_said self.old.laid) within.0 within.1
+            (texts words.now) ≡ Ok self.new.entries) }
+        ensures told { IfErr result (Refuses
+            (program_taken (laid_said self.old.laid) within.0 within.1 (texts words.now))) }
+        ensures laid { self.new.laid ≡ self.old.laid }
+    {
+        if is_end(within.1, words) {
+            self.end_program(alloc, words)
+        } else {
+            self.take_statement(alloc, number, within, words)
+        }
+    }
+
+    /// Fails with Unclosed where a program is open.
+    fn has_closed(&self) -> Result<(), Why>
+        ensures closed { OnOk result (all_closed self.now.entries ≡ Ok self.now.entries) }
+        ensures told { IfErr result (Refuses (all_closed self.now.entries)) }
+    {
+        match self.entries {
+            Entries::Program { .. } => Err(Why::Unclosed {
+                opened: self.program.as_ref().map_or(0, |program| program.opened),
+            }),
+            Entries::Nothing | Entries::Steps | Entries::Users => Ok(()),
+        }
     }
 
     /// Fails with NoStep where no step came before.
@@ -318,7 +508,7 @@ impl Compiler {
     {
         match self.entries {
             Entries::Steps => Ok(()),
-            _ => Err(Why::NoStep),
+            Entries::Nothing | Entries::Users | Entries::Program { .. } => Err(Why::NoStep),
         }
     }
 
@@ -337,22 +527,52 @@ impl Compiler {
         Ok(())
     }
 
-    /// Adds a line with `: ` in it. Late where it has none.
-    fn add_headed(&mut self, alloc: Global, code: &str) -> Result<(), Why>
-        ensures taken { OnOk result (entry_taken (laid_said self.old.laid) self.old.entries
-            (cut_at_colon code.now) ≡ Ok self.new.entries) }
-        ensures told { IfErr result (Refuses (entry_taken (laid_said self.old.laid) self.old.entries
-            (cut_at_colon code.now))) }
+    /// Adds a line with `: ` in it, or begins a program. Late where it is neither.
+    fn add_headed(
+        &mut self,
+        alloc: Global,
+        number: u64,
+        code: &str,
+        first: &str,
+        rest: &[&str],
+    ) -> Result<(), Why>
+        ensures taken { OnOk result (headed_taken (laid_said self.old.laid) self.old.entries
+            first.now (texts rest.now) (cut_at_colon code.now) ≡ Ok self.new.entries) }
+        ensures told { IfErr result (Refuses (headed_taken (laid_said self.old.laid)
+            self.old.entries first.now (texts rest.now) (cut_at_colon code.now))) }
         ensures laid { self.new.laid ≡ self.old.laid }
     {
         match split_colon(code) {
             Some((head, text)) => self.add_entry(alloc, head, text),
+            None if first == "program" => self.begin_program(alloc, number, rest),
             None => Err(Why::Late),
         }
     }
 
+    /// Adds what a line outside of programs says, of which these are the words: the first, and the
+    /// rest.
+    fn add_words(
+        &mut self,
+        alloc: Global,
+        number: u64,
+        code: &str,
+        first: &str,
+        rest: &[&str],
+    ) -> Result<(), Why>
+        ensures taken { OnOk result (words_taken (laid_said self.old.laid) self.old.entries
+            code.now first.now (texts rest.now) ≡ Ok self.new.entries) }
+        ensures told { IfErr result (Refuses (words_taken (laid_said self.old.laid)
+            self.old.entries code.now first.now (texts rest.now))) }
+        ensures laid { self.new.laid ≡ self.old.laid }
+    {
+        if first == "?" {
+            return self.add_wanted(alloc, rest);
+        }
+        self.add_headed(alloc, number, code, first, rest)
+    }
+
     /// Adds what a line after the boot says beside its comment.
-    fn add_code(&mut self, alloc: Global, code: &str) -> Result<(), Why>
+    fn add_code(&mut self, alloc: Global, number: u64, code: &str) -> Result<(), Why>
         ensures taken { OnOk result (code_taken (laid_said self.old.laid) self.old.entries
             code.now ≡ Ok self.new.entries) }
         ensures told { IfErr result
@@ -363,14 +583,18 @@ impl Compiler {
         let Some((first, rest)) = words.split_first() else {
             return Ok(());
         };
-        if *first == "?" {
-            return self.add_wanted(alloc, rest);
+        match self.entries {
+            Entries::Program { thread, blocks } => {
+                self.take_program(alloc, number, (thread, blocks), &words)
+            }
+            Entries::Nothing | Entries::Steps | Entries::Users => {
+                self.add_words(alloc, number, code, first, rest)
+            }
         }
-        self.add_headed(alloc, code)
     }
 
-    /// Adds a line after the boot, with its comment before it.
-    fn add_line(&mut self, alloc: Global, line: &str) -> Result<(), Why>
+    /// Adds a line after the boot, which has this number, with its comment before it.
+    fn add_line(&mut self, alloc: Global, number: u64, line: &str) -> Result<(), Why>
         ensures taken { OnOk result (line_taken (laid_said self.old.laid) self.old.entries
             line.now ≡ Ok self.new.entries) }
         ensures told { IfErr result
@@ -380,7 +604,28 @@ impl Compiler {
         is_short(line)?;
         let (code, comment) = split_comment(line);
         add_comment(alloc, &mut self.lines, comment)?;
-        self.add_code(alloc, code)
+        self.add_code(alloc, number, code)
+    }
+}
+
+/// The fault of a thread with two programs, or with a program and lines of a user.
+fn both_kinds(alloc: Global) -> Result<Why, AllocError>
+    ensures { IfOk result (λ w. told_by w ≡ None) }
+{
+    let told = String::from_str(
+        alloc,
+        "this thread has lines of a user or a program already",
+    )?;
+    Ok(Why::Program { told })
+}
+
+/// Whether lines or programs of users came.
+fn are_users(entries: Entries) -> bool
+    ensures { result ≡ are_users entries }
+{
+    match entries {
+        Entries::Users | Entries::Program { .. } => true,
+        Entries::Nothing | Entries::Steps => false,
     }
 }
 
@@ -445,7 +690,7 @@ fn take_next(
     ensures laid { compiler.new.laid ≡ compiler.old.laid }
 {
     let number = count as u64 + 1;
-    at(number, compiler.add_line(alloc, line))
+    at(number, compiler.add_line(alloc, number, line))
 }
 
 /// Reads the lines of a plan from its first step on.
@@ -478,6 +723,7 @@ fn finish(alloc: Global, compiler: Compiler, comments: Vec<String>) -> Result<Sc
         laid,
         lines,
         entries,
+        ..
     } = compiler;
     let mut front = comments;
     add_names(alloc, &laid.plan.names, &mut front)?;
@@ -487,9 +733,28 @@ fn finish(alloc: Global, compiler: Compiler, comments: Vec<String>) -> Result<Sc
         cores: laid.cores(),
         boot,
         lines,
-        is_users: matches!(entries, Entries::Users),
+        is_users: are_users(entries),
         laid,
     })
+}
+
+/// Takes the lines from the first step on, at whose end no program is open.
+fn read_all_steps(
+    alloc: Global,
+    compiler: &mut Compiler,
+    lines: &[&str],
+    before: usize,
+) -> Result<(), PlanFault>
+    requires before { before ≡ count_before (texts lines.now) }
+    requires nothing { compiler.old.entries ≡ Nothing }
+    ensures taken { OnOk result
+        (steps_said (laid_said compiler.old.laid) (texts lines.now) ≡ Ok compiler.new.entries) }
+    ensures told { IfErr result
+        (RefusesAt (steps_said (laid_said compiler.old.laid) (texts lines.now))) }
+    ensures laid { compiler.new.laid ≡ compiler.old.laid }
+{
+    read_steps(alloc, compiler, lines, before)?;
+    at(lines.len() as u64, compiler.has_closed())
 }
 
 /// Takes what makes threads passive, and the lines from the first step on.
@@ -508,7 +773,7 @@ fn read_behind(
     ensures laid { compiler.new.laid ≡ compiler.old.laid }
 {
     compiler.open_all(alloc)?;
-    read_steps(alloc, compiler, lines, before)
+    read_all_steps(alloc, compiler, lines, before)
 }
 
 /// The script of a plan that is laid out.
@@ -529,6 +794,9 @@ fn compile_laid(
         laid,
         lines: Vec::new(alloc),
         entries: Entries::Nothing,
+        program: None,
+        programs: Vec::new(alloc),
+        users: Vec::new(alloc),
     };
     read_behind(alloc, &mut compiler, lines, before)?;
     at(lines.len() as u64, finish(alloc, compiler, front))

@@ -5,6 +5,7 @@
 //! lines before the first step ── mcs_plan_source ──> Plan ── mcs_plan_layout ──> Laid: the boot,
 //!     and what each thread names
 //! lines of steps and of users ── steps, entries ──> the same lines, with addresses for names
+//! lines of programs ── programs ──> lines `#! THREAD: STATEMENT`, with addresses for names
 //! lines that begin with `?`   ── wanting ──> what `mcslab check` reads
 //! all of these are a Script   ── writing ──> the text; mapping ──> the table of names
 //! ```
@@ -15,6 +16,7 @@ mod entries;
 mod fields;
 mod lines;
 mod mapping;
+mod programs;
 mod script;
 mod steps;
 mod wanting;

@@ -5,7 +5,7 @@ ghost use Rattle.mcs_plan_source.specs.Naming.{texts};
 ghost use Rattle.mcs_plan_source.specs.Refusals.{Refuses};
 ghost use Rattle.mcs_plan_compile.specs.Reading.{short};
 ghost use Rattle.mcs_plan_compile.specs.Telling.{line_of};
-ghost use Rattle.mcs_plan_compile.specs.Stepping.{cut_at_colon, asks, begins_steps, count_before};
+ghost use Rattle.mcs_plan_compile.specs.Stepping.{cut_at_colon, asks, begins_program, begins_steps, count_before, is_program_word};
 
 use mcs_plan_source::{Why, is_white, split_comment};
 use std::alloc::{AllocError, Global};
@@ -101,12 +101,36 @@ fn asks(text: &[u8]) -> bool
     false
 }
 
-/// Whether a line is that of a step, of a user, or of what is wanted.
+/// Whether a text is `program`, with white space behind it or nothing.
+fn is_program_word(text: &[u8]) -> bool
+    ensures { result ≡ is_program_word text.now }
+{
+    match text {
+        [b'p', b'r', b'o', b'g', b'r', b'a', b'm'] => true,
+        [b'p', b'r', b'o', b'g', b'r', b'a', b'm', next, ..] => is_white(*next),
+        _ => false,
+    }
+}
+
+/// Whether the first word is `program`.
+fn begins_program(text: &[u8]) -> bool
+    ensures { result ≡ begins_program text.now }
+{
+    for (place, byte) in text.iter().enumerate() {
+        if !is_white(*byte) {
+            return is_program_word(&text[place..]);
+        }
+    }
+    false
+}
+
+/// Whether a line is that of a step, of a user, or of what is wanted, or the first of a program.
 fn begins_steps(line: &str) -> bool
     ensures { result ≡ begins_steps line.now }
 {
     let (code, _) = split_comment(line);
-    split_colon(code).is_some() || asks(code.as_bytes())
+    let bytes = code.as_bytes();
+    split_colon(code).is_some() || asks(bytes) || begins_program(bytes)
 }
 
 /// How many lines are before the first step.

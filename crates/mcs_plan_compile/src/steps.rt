@@ -81,7 +81,7 @@ fn read_core(
 }
 
 /// The thread of this name.
-fn thread_named(alloc: Global, laid: &Laid, name: &str) -> Result<ObjId, Why>
+pub fn thread_named(alloc: Global, laid: &Laid, name: &str) -> Result<ObjId, Why>
     ensures thread { IfOk result
         (λ t. named_as kind.Thread name.now laid.now.plan.names ≡ Ok t) }
     ensures told { IfErr result (Refuses (named_as kind.Thread name.now laid.now.plan.names)) }

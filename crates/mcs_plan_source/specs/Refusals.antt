@@ -22,9 +22,11 @@ pub data Refusal : Type 0 where
   no_step : Refusal
   mixed : Refusal
   passive_user : Refusal
+  unclosed : Refusal
   boot : BootFault → Refusal
 
--- the fault that is reported; that memory was refused tells none
+-- the fault that is reported; that memory was refused tells none, nor does what the statements of a
+-- program say
 abbrev pub told_by : Why → Option Refusal
 told_by why.NotText = Some no_text
 told_by (why.Unknown word) = Some (unknown (string_bytes word))
@@ -41,6 +43,8 @@ told_by why.Late = Some late
 told_by why.NoStep = Some no_step
 told_by why.Mixed = Some mixed
 told_by why.PassiveUser = Some passive_user
+told_by (why.Unclosed opened) = Some unclosed
+told_by (why.Program told) = None
 told_by (why.Boot fault) = Some (boot fault)
 told_by why.OutOfMemory = None
 
@@ -61,6 +65,7 @@ is_of_line late = false
 is_of_line no_step = false
 is_of_line mixed = false
 is_of_line passive_user = false
+is_of_line unclosed = false
 is_of_line (boot fault) = false
 
 -- what is read, or the first fault

@@ -47,6 +47,14 @@ pub enum Why {
     NoStep,
     Mixed,
     PassiveUser,
+    /// The program that begins in this line is not closed.
+    Unclosed {
+        opened: u64,
+    },
+    /// What is told of a program.
+    Program {
+        told: String,
+    },
     Boot(BootFault),
     OutOfMemory,
 }
@@ -113,6 +121,10 @@ impl fmt::Display for Why {
             Why::PassiveUser => {
                 f.write_str("a passive thread receives in a step, and these are lines of users")
             }
+            Why::Unclosed { opened } => {
+                write!(f, "the program that begins in line {opened} is not closed")
+            }
+            Why::Program { told } => write!(f, "program: {told}"),
             Why::Boot(fault) => write!(f, "the boot is refused: {fault}"),
             Why::OutOfMemory => f.write_str("out of memory"),
         }

@@ -23,6 +23,7 @@ mod plans;
 mod rings;
 mod scripts;
 mod stuck;
+mod walks;
 
 use flaws::tell_flaws;
 use gallery::draw_gallery;

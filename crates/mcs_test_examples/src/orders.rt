@@ -1,5 +1,6 @@
 //! All orders of the scripts of users in `examples/explore/` and `examples/programs/`: what is
 //! reported of each, and how the scripts replay that show it.
+use crate::walks::draw_walks;
 use mcs_explore_questions::ExploreFault;
 use mcs_explore_report::{Output, Saves, UserScript, Wanted, explore_script};
 use mcs_lab_check::{LabFault, check};
@@ -9,7 +10,7 @@ use std::fs;
 use std::io::Write;
 
 /// The scripts.
-const SCRIPTS: &[&str] = &[
+pub const SCRIPTS: &[&str] = &[
     "explore/late-pick.mcs",
     "explore/suspended-calls.mcs",
     "explore/lost-signal.mcs",
@@ -30,6 +31,7 @@ const SCRIPTS: &[&str] = &[
     "explore/disk-log.mcs",
     "programs/lock.mcs",
     "programs/lock-twice.mcs",
+    "programs/labels.mcs",
     "programs/files.mcs",
     "programs/files-closed.mcs",
     "programs/microkit.mcs",
@@ -105,7 +107,7 @@ struct Replayed {
 }
 
 /// How many steps a script has: lines that begin with a digit.
-fn count_steps(text: &[u8]) -> usize {
+pub fn count_steps(text: &[u8]) -> usize {
     let mut count: usize = 0;
     let mut is_first = true;
     for byte in text {
@@ -118,7 +120,7 @@ fn count_steps(text: &[u8]) -> usize {
 }
 
 /// Whether a replay of a script lets in each of its steps.
-fn is_whole(alloc: Global, text: &[u8]) -> bool {
+pub fn is_whole(alloc: Global, text: &[u8]) -> bool {
     let Ok(mut run) = ReplayRun::new(alloc) else {
         return false;
     };
@@ -132,7 +134,7 @@ fn is_whole(alloc: Global, text: &[u8]) -> bool {
 }
 
 /// Whether a script holds by the answers that are in it.
-fn holds(alloc: Global, text: &[u8]) -> Result<bool, LabFault> {
+pub fn holds(alloc: Global, text: &[u8]) -> Result<bool, LabFault> {
     let mut told = Vec::new(alloc);
     let all_hold = check(alloc, &mut Source::new(text), &mut told)?;
     Ok(all_hold && told.len() > count_steps(text))
@@ -447,7 +449,7 @@ fn explore_budgets<W: Write>(rt: &HostRuntime, to: &mut W) -> Result<(), Explore
     Ok(())
 }
 
-/// Explores all scripts, with budgets too, and random ones, and asks all questions.
+/// Explores all scripts, with budgets too, and random ones, draws runs, and asks all questions.
 fn try_all<W: Write + Drop>(rt: &HostRuntime, to: &mut W) -> Result<(), ExploreFault> {
     for &path in SCRIPTS {
         explore_file(rt, to, path, false)?;
@@ -460,6 +462,7 @@ fn try_all<W: Write + Drop>(rt: &HostRuntime, to: &mut W) -> Result<(), ExploreF
     }
     explore_json(rt, to, AS_JSON)?;
     explore_budgets(rt, to)?;
+    draw_walks(rt, to)?;
     for &(script, questions) in ASKED {
         ask_all(rt, to, script, questions)?;
     }

@@ -28,7 +28,13 @@ const PLANS: &[&str] = &[
 ];
 
 /// Plans of users, whose scripts have no steps.
-const USERS: &[&str] = &["explore/disk-log"];
+const USERS: &[&str] = &[
+    "explore/disk-log",
+    "programs/lock",
+    "programs/files",
+    "programs/microkit",
+    "programs/retry",
+];
 
 /// What a file holds.
 fn bytes_of(rt: &HostRuntime, path: &str) -> Result<Vec<u8>, LabFault> {

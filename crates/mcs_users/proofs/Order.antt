@@ -1,5 +1,5 @@
 -- Users in order are of different threads, and stay in order with an entry more.
-use Rattle.std.specs.Prelude.{ℕ, zero, suc, Bool, true, false, nat_lt, cond, ◌≡◌, ◌<◌, ◌≤◌, List, [], ◌∷◌, Option, Some, None, length, set, position, slice_get, if◌then◌else◌}
+use Rattle.std.specs.Prelude.{ℕ, zero, suc, Bool, true, false, nat_lt, cond, ◌≡◌, ◌<◌, ◌≤◌, List, [], ◌∷◌, Some, None, length, set, position, slice_get, if◌then◌else◌}
 use Rattle.std.specs.Prelude.{Result, Ok, Err}
 use Rattle.std.specs.Result.{OnOk, OnErr}
 use Rattle.std.specs.List.{AllByRecursion, position_or_len}

@@ -2,6 +2,7 @@
 use crate::compiling::{self, Made};
 use crate::drawing::{self, Drawn};
 use crate::exploring::{self, Sought};
+use crate::walking::{self, Chance};
 use clap::builder::ValueParser;
 use clap::{Arg, ArgAction, ArgMatches, Command as Words, Error};
 use mcs_lab_forms::FORMS;
@@ -26,6 +27,8 @@ pub enum Command<'a> {
     Draw(Drawn),
     /// Goes through all orders of the users.
     Explore(Sought<'a>),
+    /// Takes one order of the users by chance.
+    Walk(Chance),
     /// Makes a script of a plan.
     Compile(Made),
     /// Puts names into a trace.
@@ -184,6 +187,7 @@ fn commands<'a>(alloc: Global) -> Result<Words<'a>, Error> {
     let words = over(words, book(alloc));
     let words = over(words, drawing::command(alloc, file(alloc)));
     let words = over(words, exploring::command(alloc, file(alloc)));
+    let words = over(words, walking::command(alloc, file(alloc)));
     let words = over(words, compiling::command(alloc, plan(alloc)));
     over(words, compiling::names_command(alloc))
 }
@@ -232,6 +236,12 @@ pub fn requested<'a>(alloc: Global, words: &'a [&'a str]) -> Result<Request<'a>,
     if let Some(found) = matches.subcommand_matches("explore") {
         return Ok(Request {
             command: Command::Explore(exploring::asked(found)),
+            file: found.get_str("FILE"),
+        });
+    }
+    if let Some(found) = matches.subcommand_matches("walk") {
+        return Ok(Request {
+            command: Command::Walk(walking::asked(found)),
             file: found.get_str("FILE"),
         });
     }

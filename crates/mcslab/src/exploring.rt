@@ -53,7 +53,7 @@ In a pattern `*` stands for a word and `**` for the rest. A name of a line `#@` 
 `mcslab --help` has the exit statuses.";
 
 /// Returns an option with a number.
-fn number<'a>(alloc: Global, name: &'a str, help: &'a str) -> Arg<'a> {
+pub fn number<'a>(alloc: Global, name: &'a str, help: &'a str) -> Arg<'a> {
     Arg::new(alloc, name)
         .long(name)
         .value_name("N")

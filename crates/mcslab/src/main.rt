@@ -7,6 +7,7 @@ mod compiling;
 mod drawing;
 mod exploring;
 mod folder;
+mod walking;
 
 use clap::Error;
 use clap::error::ErrorKind;
@@ -22,6 +23,7 @@ use std::alloc::{AllocError, Global};
 use std::fs::{self, File};
 use std::io::{self, BufWriter, Read, Write};
 use std::process::ExitCode;
+use walking::walk;
 
 /// The system's number of the error that a file is a folder.
 const IS_A_FOLDER: i32 = 21;
@@ -87,6 +89,10 @@ fn do_request<R: Read + Drop, W: Write + Drop>(
             true
         }
         Command::Explore(sought) => return explore(rt, source, to, sought),
+        Command::Walk(chance) => {
+            walk(alloc, source, to, chance)?;
+            true
+        }
         // these read no script of steps
         Command::Compile(_) | Command::Names => true,
     };
@@ -135,6 +141,7 @@ fn carry_out(rt: &HostRuntime, request: &Request<'_>) -> ExitCode {
             }
         }
         Command::Explore(Sought { scripts: None, .. })
+        | Command::Walk(_)
         | Command::Check
         | Command::Why
         | Command::State(_)

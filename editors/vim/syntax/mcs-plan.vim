@@ -11,20 +11,27 @@ syntax keyword planDeclaration contained cores endpoint notification reply conte
 syntax keyword planPart contained prio max on core stopped without context in passive with
 syntax keyword planHas contained has
 syntax keyword planAs contained as
-syntax keyword planUser contained user
+syntax keyword planUser contained user program
+syntax keyword planStatement contained let forever while repeat if else break continue stop and not
+syntax keyword planStatement contained has bit got heard empty done refused
 
 syntax match planName contained /\S\@1<!\a[0-9A-Za-z._/-]*\%(:\%([rwgp]\+\|-\)\=\)\=\%(=\%(0x\x\+\|\d\+\)\)\=\S\@!/
 syntax match planRights contained /\S\@1<![rwgp]\@=r\=w\=g\=p\=\S\@!/
 syntax match planNumber contained /\S\@1<!\%(0x\x\+\|\d\+\):\=\S\@!/
+syntax match planValue contained /\S\@1<!\$[0-9A-Za-z._-]\+\S\@!/
+syntax match planSign contained /\S\@1<!\%([{}]\|==\|!=\|>=\|<\|+=\|-=\|=\)\S\@!/
 syntax match planMark contained /^\s*?/
 syntax match planComment /\S\@1<!#.*$/
-syntax cluster planOperand contains=planComment,planNumber,mcsNone,planName
+syntax cluster planOperand contains=planComment,planNumber,planValue,mcsNone,planName
 
 syntax match planLine /^\s*\%(cores\|endpoint\|notification\|reply\|context\|thread\|cnode\|tie\)\s.*$/ contains=planDeclaration,planPart,@planOperand
 syntax match planCapabilities /^\s*\a[0-9A-Za-z._-]*\s\+has\s.*$/ contains=planHas,planAs,@planOperand
 syntax match planStep /^\s*\%(user\s\+\)\=\a[0-9A-Za-z._-]*\%(\s\+on\s\+core\s\+\d\+\)\=:\s.*$/ contains=planUser,planPart,mcsEntry,mcsKind,@planOperand
 syntax match planCopy /^\s*\%(user\s\+\)\=\a[0-9A-Za-z._-]*\%(\s\+on\s\+core\s\+\d\+\)\=:\s\+\%(copy\|mint\)\s.*$/ contains=planUser,planPart,mcsEntry,@planOperand,planRights
 syntax match planExpectation /^\s*?\s.*$/ contains=planMark,mcsAnswerWord,mcsAsked,mcsAskedState,@planOperand
+syntax match planStatements /^\s*\%(\a[0-9A-Za-z._-]*:\s\+\)\=\%(program\|let\|forever\|while\|repeat\|if\|break\|continue\|stop\|[{}]\)\S\@!.*$/ contains=planUser,planStatement,planSign,@planOperand
+syntax match planGiven /^\s*\%(send\|nbsend\|call\|recv\|nbrecv\|wait\|nbwait\|replyrecv\|nbsendrecv\|nbsendwait\|signal\|setprio\|suspend\|resume\|bindntfn\|unbindntfn\|bind\|unbind\|cancel\|copy\|mint\|move\|delete\|make\)\s.*$/ contains=mcsEntry,mcsKind,@planOperand
+syntax match planChange /^\s*\a[0-9A-Za-z._-]*\s\+\%(=\|+=\|-=\)\s.*$/ contains=planSign,@planOperand
 syntax match planQuestion /^#! .*$/ contains=@mcsScript
 
 highlight default link planComment Comment
@@ -32,6 +39,9 @@ highlight default link planMark PreProc
 highlight default link planDeclaration Statement
 highlight default link planHas Statement
 highlight default link planUser Statement
+highlight default link planStatement Statement
+highlight default link planSign Operator
+highlight default link planValue Identifier
 highlight default link planPart Keyword
 highlight default link planAs Keyword
 highlight default link planName Identifier

@@ -1,7 +1,6 @@
-use Rattle.std.proofs.Common.{◌≡◌, ◌<◌, ◌≤◌, ◌^◌, ◌++◌, ap, sym, subst, ◌∙◌, length, arith}
+use Rattle.std.proofs.Common.{◌≡◌, ◌<◌, ◌≤◌, ◌^◌, ◌++◌, ap, sym, subst, ◌∙◌, length}
 use Rattle.std.specs.Option.{IsSome}
 use Rattle.mcs_types.specs.Limits.{label_bits, word_limit}
-use Rattle.mcs_turns.specs.Programs.{filled_words}
 use Rattle.mcs_turns.proofs.Settling.{words-length}
 use Rattle.mcs_turns.proofs.program.filled_message.Goals as goal
 

@@ -1,7 +1,7 @@
 use Rattle.std.proofs.Common.{◌≡◌, ◌+◌, ◌-◌, suc, Some, ap, sym, ◌∙◌, length, arith, ℕ}
 use Rattle.std.specs.Prelude.{slice_get}
 use Rattle.mcs_turns.specs.declared.program.Saved.{Saved}
-use Rattle.mcs_turns.specs.Programs.{settled, op_next, op_saved}
+use Rattle.mcs_turns.specs.Programs.{settled, op_next}
 use Rattle.mcs_turns.proofs.Settling.{settled-on}
 use Rattle.mcs_turns.proofs.program.settle.Goals as goal
 

@@ -2,7 +2,7 @@
 use Rattle.std.specs.Prelude.{ℕ, suc, ◌≡◌, ◌+◌, ◌++◌, List}
 use Rattle.std.proofs.Common.{ap, ◌∙◌, append_assoc, arith}
 use Rattle.mcs_lab_check.specs.Naming.{Naming, given_at}
-use Rattle.mcs_explore_report.specs.Scripts.{given_text, names_below}
+use Rattle.mcs_explore_script.specs.RunTexts.{given_text, names_below}
 
 next-on : (n : ℕ) → suc n ≡ n + 1
 next-on n = omega arith

@@ -1,8 +1,8 @@
 use Rattle.std.proofs.Common.{ℕ, ◌++◌, Option, ap, ◌∙◌}
 use Rattle.mcs_lab_check.specs.Naming.{Naming}
-use Rattle.mcs_explore_report.specs.Scripts.{given_text}
-use Rattle.mcs_explore_report.proofs.Scripting.{names-next}
-use Rattle.mcs_explore_report.proofs.scripts.push_names.Goals as goal
+use Rattle.mcs_explore_script.specs.RunTexts.{given_text}
+use Rattle.mcs_explore_script.proofs.RunTexts.{names-next}
+use Rattle.mcs_explore_script.proofs.run_texts.push_names.Goals as goal
 
 pub loop-number-preserved : goal.loop-number-preserved
 loop-number-preserved c =

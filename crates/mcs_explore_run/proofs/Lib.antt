@@ -1,0 +1,2 @@
+mod Draws
+mod Lengths

@@ -1,0 +1,242 @@
+//! The lines of programs: `program NAME {`, statements, and `}`. A statement becomes a line
+//! `#! THREAD: STATEMENT` of the script, with addresses for the names in its entry.
+ghost use Rattle.std.specs.Prelude.{◌≡◌, Ok, None, IfOk, IfErr, OnOk, map};
+ghost use Rattle.mcs_types.specs.declared.id.Kind.TheVariants as kind;
+ghost use Rattle.mcs_plan_source.specs.Naming.{texts};
+ghost use Rattle.mcs_plan_source.specs.Refusals.{Refuses, told_by};
+ghost use Rattle.mcs_plan_layout.specs.Laid.{laid_said};
+ghost use Rattle.mcs_plan_compile.specs.Programs.{behind_name, closes, ends_with_colon, entry_said, is_end, is_entry, is_value, open_behind, open_still, opens, program_head, statement_said, zeroed};
+
+use crate::fields::fields_of;
+use crate::lines::LINE_BYTES;
+use crate::steps::{Head, thread_named, write_entry};
+use mcs_explore_programs::ProgramFault;
+use mcs_plan_layout::Laid;
+use mcs_plan_source::{Why, Words, add_word, split_words};
+use mcs_types::ObjId;
+use std::alloc::{AllocError, Global};
+
+/// How many blocks of a program may be open at a time (own).
+const DEPTH: usize = 32;
+
+/// Whether a word is the name of what follows it.
+fn ends_with_colon(word: &[u8]) -> bool
+    ensures { result ≡ ends_with_colon word.now }
+{
+    match word.last() {
+        Some(byte) => *byte == b':',
+        None => false,
+    }
+}
+
+/// The words behind the name of an entry or a block, if they have one.
+fn behind_name<'w, 'a>(words: &'w [&'a str]) -> &'w [&'a str]
+    ensures { texts result.now ≡ behind_name (texts words.now) }
+{
+    match words {
+        [word, rest @ ..] if ends_with_colon(word.as_bytes()) => rest,
+        _ => words,
+    }
+}
+
+/// Whether words spell an entry: the first is the word of one.
+fn is_entry(words: &[&str]) -> bool
+    ensures { result ≡ is_entry (texts words.now) }
+{
+    match words {
+        [key, ..] => fields_of(key).is_some(),
+        [] => false,
+    }
+}
+
+/// Whether a word is a value: it begins with `$`.
+fn is_value(word: &[u8]) -> bool
+    ensures { result ≡ is_value word.now }
+{
+    match word {
+        [first, ..] => *first == b'$',
+        [] => false,
+    }
+}
+
+/// A word of an entry, with 0 for a value.
+fn zeroed<'a>(word: &'a str) -> &'a str
+    ensures { result.now ≡ zeroed word.now }
+{
+    if is_value(word.as_bytes()) { "0" } else { word }
+}
+
+/// The words of an entry, with 0 for each value.
+fn without_values<'a>(alloc: Global, words: &[&'a str]) -> Result<Vec<&'a str>, AllocError>
+    ensures { IfOk result (λ v. texts v.items ≡ map zeroed (texts words.now)) }
+{
+    let mut plain = Vec::new(alloc);
+    for i in 0..words.len() {
+        plain.push(zeroed(words[i]))?;
+    }
+    Ok(plain)
+}
+
+/// The word of an entry at so many places from its end, where that is a value.
+fn value_at<'a>(words: &[&'a str], left: usize) -> Option<&'a str> {
+    let word = *words.get(words.len().checked_sub(left)?)?;
+    if is_value(word.as_bytes()) {
+        Some(word)
+    } else {
+        None
+    }
+}
+
+/// Adds an entry as a script spells it, behind its thread, with the values that its words have: a
+/// message is at the end of both.
+fn add_entry(alloc: Global, to: &mut String, line: &str, words: &[&str]) -> Result<(), AllocError> {
+    let spelled = split_words(alloc, line)?;
+    for place in 2..spelled.len() {
+        let word = spelled[place];
+        let left = spelled.len() - place;
+        add_word(to, value_at(words, left).unwrap_or(word))?;
+    }
+    Ok(())
+}
+
+/// Adds words.
+fn add_words(to: &mut String, words: &[&str]) -> Result<(), AllocError> {
+    for word in words {
+        add_word(to, word)?;
+    }
+    Ok(())
+}
+
+/// The entry of a program, as a line of a user with 0 for each value.
+fn plain_entry(alloc: Global, laid: &Laid, thread: ObjId, words: &[&str]) -> Result<String, Why>
+    ensures said { OnOk result
+        (entry_said (laid_said laid.now) thread (texts words.now) ≡ Ok tt) }
+    ensures told { IfErr result
+        (Refuses (entry_said (laid_said laid.now) thread (texts words.now))) }
+{
+    let plain = without_values(alloc, words)?;
+    let head = Head { thread, core: None };
+    write_entry(alloc, laid, head, &plain)
+}
+
+/// The statement that words spell, as a script has it.
+pub fn statement_text(
+    alloc: Global,
+    laid: &Laid,
+    thread: ObjId,
+    words: &[&str],
+) -> Result<String, Why>
+    ensures said { OnOk result
+        (statement_said (laid_said laid.now) thread (texts words.now) ≡ Ok tt) }
+    ensures told { IfErr result
+        (Refuses (statement_said (laid_said laid.now) thread (texts words.now))) }
+{
+    let mut text = String::new(alloc);
+    let entry = behind_name(words);
+    if !is_entry(entry) {
+        add_words(&mut text, words)?;
+        return Ok(text);
+    }
+    let line = plain_entry(alloc, laid, thread, entry)?;
+    let name = words.len().saturating_sub(entry.len());
+    add_words(&mut text, words.get(..name).unwrap_or(&[]))?;
+    add_entry(alloc, &mut text, line.as_str(), entry)?;
+    Ok(text)
+}
+
+/// Whether a statement closes a block.
+fn closes(words: &[&str]) -> bool
+    ensures { result ≡ closes (texts words.now) }
+{
+    match words {
+        [word, ..] => *word == "}",
+        [] => false,
+    }
+}
+
+/// Whether a statement opens a block.
+fn opens(words: &[&str]) -> bool
+    ensures { result ≡ opens (texts words.now) }
+{
+    match words.last() {
+        Some(word) => *word == "{",
+        None => false,
+    }
+}
+
+/// How many blocks are open behind what a statement closes.
+pub fn open_still(blocks: usize, words: &[&str]) -> usize
+    ensures { result ≡ open_still blocks (texts words.now) }
+{
+    if closes(words) {
+        blocks.saturating_sub(1)
+    } else {
+        blocks
+    }
+}
+
+/// How many blocks are open behind a statement. Limit where these are too many.
+pub fn open_behind(blocks: usize, words: &[&str]) -> Result<usize, Why>
+    ensures blocks { IfOk result (λ n. open_behind blocks (texts words.now) ≡ Ok n) }
+    ensures told { IfErr result (Refuses (open_behind blocks (texts words.now))) }
+{
+    let still = open_still(blocks, words);
+    if !opens(words) {
+        return Ok(still);
+    }
+    if still < DEPTH {
+        return Ok(still + 1);
+    }
+    Err(Why::Limit {
+        what: "open blocks",
+        limit: DEPTH as u32,
+    })
+}
+
+/// Whether a statement closes the program.
+pub fn is_end(blocks: usize, words: &[&str]) -> bool
+    ensures { result ≡ is_end blocks (texts words.now) }
+{
+    closes(words) && blocks == 0
+}
+
+/// Reads `NAME {`, which follows `program`.
+pub fn program_head(alloc: Global, laid: &Laid, words: &mut Words<'_>) -> Result<ObjId, Why>
+    ensures head { IfOk result (λ t. program_head (laid_said laid.now) words.old ≡ Ok t) }
+    ensures told { IfErr result (Refuses (program_head (laid_said laid.now) words.old)) }
+{
+    let name = words.need("the name of a thread")?;
+    let thread = thread_named(alloc, laid, name)?;
+    words.expect(alloc, "{")?;
+    words.end(alloc)?;
+    Ok(thread)
+}
+
+/// The fault that is told of a program.
+pub fn fault_of(alloc: Global, fault: ProgramFault) -> Why
+    ensures { told_by result ≡ None }
+{
+    match format!(in alloc; "{fault}") {
+        Ok(told) => Why::Program { told },
+        Err(_) => Why::OutOfMemory,
+    }
+}
+
+/// The line of a script that has a statement of the thread of this name, inside of so many blocks.
+/// A fault where it is too long for a script.
+pub fn program_line(alloc: Global, name: &str, blocks: usize, text: &str) -> Result<String, Why>
+    ensures { IfErr result (λ w. told_by w ≡ None) }
+{
+    let mut line = String::from_str(alloc, "#! ")?;
+    line.push_str(name)?;
+    line.push_str(": ")?;
+    for _ in 0..blocks {
+        line.push_str("  ")?;
+    }
+    line.push_str(text)?;
+    if line.len() > LINE_BYTES {
+        let told = format!(in alloc; "the line has more than {LINE_BYTES} bytes in a script")?;
+        return Err(Why::Program { told });
+    }
+    Ok(line)
+}

@@ -1,0 +1,84 @@
+//! Runs that are drawn: whether each replays, and what one shows.
+use crate::orders::{SCRIPTS, count_steps, holds, is_whole};
+use mcs_explore_questions::ExploreFault;
+use mcs_explore_run::{Drawn, draw_run};
+use mcs_explore_script::read_script;
+use mcs_lab_check::LabFault;
+use mcs_sim::Source;
+use std::fs;
+use std::io::Write;
+
+/// How many runs are drawn of each script.
+const SEEDS: u64 = 8;
+
+/// How many turns each makes at most.
+const TURNS: u64 = 100;
+
+/// The script of which a run is written.
+const WRITTEN: &str = "programs/restarted.mcs";
+
+/// The runs that were drawn: how many, how many turns they made, in how many no turn is possible
+/// at the end, of how many the kernel accepts just these turns, and in how many each answer is the
+/// one that is after its step.
+#[derive(Drop)]
+struct Walks {
+    count: u64,
+    turns: u64,
+    over: u64,
+    whole: u64,
+    checked: u64,
+}
+
+/// Draws a run of the script of a file by a seed.
+fn drawn(rt: &HostRuntime, path: &str, seed: u64) -> Result<Drawn, ExploreFault> {
+    let Ok(file) = fs::open(rt, path) else {
+        return Err(ExploreFault::Lab(LabFault::Read));
+    };
+    let script = read_script(rt.alloc(), &mut Source::new(file))?;
+    let run = draw_run(rt.alloc(), &script, b"", seed, TURNS)?;
+    Ok(run)
+}
+
+impl Walks {
+    /// Counts a run.
+    fn note(&mut self, rt: &HostRuntime, run: &Drawn) -> Result<(), LabFault> {
+        let is_long = count_steps(&run.text) as u64 == run.turns;
+        let whole = is_long && is_whole(rt.alloc(), &run.text);
+        self.count = self.count.saturating_add(1);
+        self.turns = self.turns.saturating_add(run.turns);
+        self.over = self.over.saturating_add(u64::from(run.is_over));
+        self.whole = self.whole.saturating_add(u64::from(whole));
+        let checked = holds(rt.alloc(), &run.text)?;
+        self.checked = self.checked.saturating_add(u64::from(checked));
+        Ok(())
+    }
+}
+
+/// Draws runs of all scripts of users, and says how they replay; then writes one.
+pub fn draw_walks<W: Write>(rt: &HostRuntime, to: &mut W) -> Result<(), ExploreFault> {
+    let mut walks = Walks {
+        count: 0,
+        turns: 0,
+        over: 0,
+        whole: 0,
+        checked: 0,
+    };
+    for path in SCRIPTS {
+        for seed in 0..SEEDS {
+            walks.note(rt, &drawn(rt, path, seed)?)?;
+        }
+    }
+    let Walks {
+        count,
+        turns,
+        over,
+        whole,
+        checked,
+    } = walks;
+    writeln!(
+        to,
+        "of {count} runs of {turns} turns {over} are over, {whole} replayed whole, {checked} checked"
+    )?;
+    to.write_all(&drawn(rt, WRITTEN, 1)?.text)?;
+    Ok(())
+}
