@@ -1,12 +1,12 @@
 //! The bars of lanes on the page.
-use crate::naming::{Names, put_full_name, put_name};
-use crate::notes::{is_ready, put_look};
-use crate::paper::{Area, put_area};
+use crate::naming::{Names, put_full_name};
+use crate::notes::{is_ready, put_look, put_whole_look};
+use crate::paper::{Area, put_area, put_attribute};
 use crate::plans::{ARROW_AT, HEAD, Plan, Row, RowKind};
+use crate::texts::Words;
 use mcs_lab_diagram::{Drawing, Look};
+use mcs_lab_inspect::Page;
 use mcs_types::{ObjId, Status};
-use std::alloc::{AllocError, Global};
-use std::fmt::Write;
 
 /// How many colours there are.
 const COLOURS: u32 = 7;
@@ -27,6 +27,13 @@ struct Bar {
     top: u64,
 }
 
+impl Bar {
+    /// Returns whether a thread looks as in another bar.
+    fn is_like(&self, other: Bar) -> bool {
+        self.look == other.look && self.is_picked == other.is_picked
+    }
+}
+
 /// Where in a row what it changes is seen.
 pub fn event_of(row: &Row) -> u64 {
     if row.kind == RowKind::Start {
@@ -36,171 +43,172 @@ pub fn event_of(row: &Row) -> u64 {
     }
 }
 
-/// Adds what a thread does: threads that run differ from those that could.
-pub fn put_state<N: Names>(
-    to: &mut String,
-    names: &N,
-    look: Look,
-    is_picked: bool,
-) -> Result<(), AllocError> {
-    if is_ready(look.status) {
-        to.push_str(if is_picked { "runs " } else { "ready, " })?;
+/// Puts what a thread does: threads that run differ from those that could.
+pub fn put_state<N: Names>(to: &mut Page, names: &N, look: Look, is_picked: bool) {
+    if !is_ready(look.status) {
+        return put_whole_look(to, names, look);
     }
-    put_look(to, names, look)?;
-    match look.context {
-        Some(context) if !is_ready(look.status) => {
-            to.push_str(", holds ")?;
-            put_name(to, names, context)
-        }
-        _ => Ok(()),
-    }
+    to.put(if is_picked { "runs " } else { "ready, " }.as_bytes());
+    put_look(to, names, look);
 }
 
-/// Adds a box in the colour of a context.
-pub fn put_coloured(
-    to: &mut String,
-    context: ObjId,
-    more: &str,
-    area: Area,
-    title: &str,
-) -> Result<(), AllocError> {
+/// Puts a box in the colour of a context.
+pub fn put_coloured(to: &mut Page, context: ObjId, more: &str, area: Area, title: &str) {
     let serial = context.serial.saturating_sub(1);
-    let colour = serial % COLOURS;
-    write!(to, "<g class=\"k{colour}\">")?;
-    put_area(to, more, area, title)?;
+    put_attribute(to, b"<g class=\"k", (serial % COLOURS) as u64);
+    to.put(b">");
+    put_area(to, more, area, title);
     if serial >= COLOURS {
         let within = Area {
             x: area.x.saturating_add(area.width / 2).saturating_sub(1),
             width: 2,
             ..area
         };
-        put_area(to, "again", within, "")?;
+        put_area(to, "again", within, "");
     }
-    to.push_str("</g>\n")
+    to.put(b"</g>\n");
 }
 
-/// Adds a bar of this title.
-fn put_bar(to: &mut String, bar: Bar, area: Area, title: &str) -> Result<(), AllocError> {
-    let strip = Area {
-        width: STRIP,
+/// Puts a thin bar: a thread that is ready without a context.
+fn put_bare(to: &mut Page, area: Area, title: &str) {
+    let thin = Area {
+        x: area.x.saturating_add(HALF - 1),
+        width: 2,
         ..area
     };
+    put_area(to, "bare", thin, title)
+}
+
+/// Puts the bar of a thread that waits or is inactive, with a strip for the context that it holds.
+fn put_waiting(to: &mut Page, bar: Bar, area: Area, title: &str) {
+    let class = if bar.look.status == Some(Status::Inactive) {
+        "idle"
+    } else {
+        "wait"
+    };
+    put_area(to, class, area, title);
+    if let Some(context) = bar.look.context {
+        let strip = Area {
+            width: STRIP,
+            ..area
+        };
+        put_coloured(to, context, "run", strip, title);
+    }
+}
+
+/// Puts a bar of this title.
+fn put_bar(to: &mut Page, bar: Bar, area: Area, title: &str) {
     match (bar.look.status, bar.look.context) {
         (Some(Status::Running | Status::Restart), Some(context)) => {
             let more = if bar.is_picked { "run" } else { "ready" };
             put_coloured(to, context, more, area, title)
         }
-        (Some(Status::Running | Status::Restart), None) => {
-            let thin = Area {
-                x: area.x.saturating_add(HALF - 1),
-                width: 2,
-                ..area
-            };
-            put_area(to, "bare", thin, title)
-        }
-        (Some(Status::Closed) | None, _) => Ok(()),
-        (Some(status), context) => {
-            let class = if status == Status::Inactive {
-                "idle"
-            } else {
-                "wait"
-            };
-            put_area(to, class, area, title)?;
-            match context {
-                Some(context) => put_coloured(to, context, "run", strip, title),
-                None => Ok(()),
-            }
-        }
+        (Some(Status::Running | Status::Restart), None) => put_bare(to, area, title),
+        (Some(Status::Closed) | None, _) => {}
+        (Some(_), _) => put_waiting(to, bar, area, title),
     }
 }
 
-/// Adds a bar that ends at this height.
-fn put_ended<N: Names>(
-    alloc: Global,
-    to: &mut String,
-    names: &N,
-    thread: ObjId,
-    x: u64,
-    bar: Bar,
-    bottom: u64,
-) -> Result<(), AllocError> {
-    let mut title = String::new(alloc);
-    put_full_name(&mut title, names, thread)?;
-    let Bar { first, last, .. } = bar;
-    if first == last {
-        write!(title, ", behind line {first}: ")?;
+/// Puts the title of a bar: its thread, the lines behind which it looks so, and what it does.
+fn put_title<N: Names>(to: &mut Page, names: &N, thread: ObjId, bar: Bar) {
+    put_full_name(to, names, thread);
+    if bar.first == bar.last {
+        to.put(b", behind line ");
+        to.count(bar.first);
     } else {
-        write!(title, ", behind lines {first} to {last}: ")?;
+        to.put(b", behind lines ");
+        to.count(bar.first);
+        to.put(b" to ");
+        to.count(bar.last);
     }
-    put_state(&mut title, names, bar.look, bar.is_picked)?;
+    to.put(b": ");
+    put_state(to, names, bar.look, bar.is_picked);
+}
+
+/// Puts a bar of this title that ends at this height, and says behind which lines it is.
+fn put_group(to: &mut Page, x: u64, bar: Bar, bottom: u64, title: &str) {
     let area = Area {
         x: x.saturating_sub(HALF),
         y: bar.top,
         width: 2 * HALF,
         height: bottom.saturating_sub(bar.top),
     };
-    write!(
-        to,
-        "<g class=\"bar\" data-first=\"{first}\" data-last=\"{last}\">"
-    )?;
-    put_bar(to, bar, area, title.as_str())?;
-    to.push_str("</g>\n")
+    put_attribute(to, b"<g class=\"bar\" data-first=\"", bar.first as u64);
+    put_attribute(to, b" data-last=\"", bar.last as u64);
+    to.put(b">");
+    put_bar(to, bar, area, title);
+    to.put(b"</g>\n");
 }
 
-/// Adds the bars of a lane.
-fn put_lane<N: Names>(
-    alloc: Global,
-    to: &mut String,
-    names: &N,
-    drawing: &Drawing,
-    plan: &Plan,
-    lane: usize,
+/// A lane whose bars are put, and its bar that has not ended.
+#[derive(Drop)]
+struct Lane<'a, N> {
+    names: &'a N,
+    thread: ObjId,
     x: u64,
-) -> Result<(), AllocError> {
-    let thread = drawing.thread(lane);
-    let mut current: Option<Bar> = None;
-    for row in plan.rows.iter() {
-        if row.kind == RowKind::Away {
-            continue;
-        }
-        let look = drawing.look(row.number, lane);
-        let is_picked = drawing.is_picked(row.number, thread);
-        let top = event_of(row);
-        let next = Bar {
-            look,
-            is_picked,
-            first: row.number,
-            last: row.number,
-            top,
+    current: Option<Bar>,
+}
+
+impl<'a, N: Names> Lane<'a, N> {
+    /// Ends the bar of the lane at this height.
+    fn end(&self, words: &mut Words, to: &mut Page, bottom: u64) {
+        let Some(bar) = self.current else {
+            return;
         };
-        current = match current {
-            Some(bar) if bar.look == look && bar.is_picked == is_picked => Some(Bar {
-                last: row.number,
+        put_title(&mut words.page, self.names, self.thread, bar);
+        match words.take() {
+            Ok(title) => put_group(to, self.x, bar, bottom, title.as_str()),
+            Err(_) => to.cut(),
+        }
+    }
+
+    /// Takes how the thread looks in a row: the bar goes on, or ends where this one begins.
+    fn take(&mut self, words: &mut Words, to: &mut Page, next: Bar) {
+        let current = self.current;
+        self.current = match current {
+            Some(bar) if bar.is_like(next) => Some(Bar {
+                last: next.last,
                 ..bar
             }),
-            Some(bar) => {
-                put_ended(alloc, to, names, thread, x, bar, top)?;
+            _ => {
+                self.end(words, to, next.top);
                 Some(next)
             }
-            None => Some(next),
         };
-    }
-    match current {
-        Some(bar) => put_ended(alloc, to, names, thread, x, bar, plan.end),
-        None => Ok(()),
     }
 }
 
-/// Adds the bars of all lanes.
+/// Returns how a thread looks in a row.
+fn bar_of(drawing: &Drawing, row: &Row, lane: usize) -> Bar {
+    Bar {
+        look: drawing.look(row.number, lane),
+        is_picked: drawing.is_picked(row.number, drawing.thread(lane)),
+        first: row.number,
+        last: row.number,
+        top: event_of(row),
+    }
+}
+
+/// Puts the bars of all lanes.
 pub fn put_bars<N: Names>(
-    alloc: Global,
-    to: &mut String,
+    words: &mut Words,
+    to: &mut Page,
     names: &N,
     drawing: &Drawing,
     plan: &Plan,
-) -> Result<(), AllocError> {
-    for (lane, x) in plan.lanes.iter().enumerate() {
-        put_lane(alloc, to, names, drawing, plan, lane, *x)?;
+) {
+    for (at, x) in plan.lanes.iter().enumerate() {
+        let mut lane = Lane {
+            names,
+            thread: drawing.thread(at),
+            x: *x,
+            current: None,
+        };
+        for row in plan.rows.iter() {
+            if row.kind != RowKind::Away {
+                lane.take(words, to, bar_of(drawing, row, at));
+            }
+        }
+        lane.end(words, to, plan.end);
     }
-    Ok(())
 }

@@ -2,11 +2,12 @@
 //! clicks on rows. The panel with the step is beside the picture, and below it in narrow windows;
 //! both scroll by themselves, so neither hides the other. The heads of the lanes stay in sight.
 use crate::naming::Names;
+use crate::paper::put_attribute;
 use crate::svg::svg_of;
-use crate::texts::put_escaped;
+use crate::texts::{put_escaped, take_text};
 use mcs_lab_diagram::{Drawing, Window};
+use mcs_lab_inspect::Page;
 use std::alloc::{AllocError, Global};
-use std::fmt::Write;
 
 /// What is before the title.
 const HEAD: &str = "<!DOCTYPE html>
@@ -175,6 +176,13 @@ const BEHIND: &str = ">
 </html>
 ";
 
+/// Puts the numbers of the first line and the last, and of the one at which the page begins.
+fn put_slider(to: &mut Page, shown: Window) {
+    put_attribute(to, b"min=\"", shown.first.saturating_sub(1) as u64);
+    put_attribute(to, b" max=\"", shown.last as u64);
+    put_attribute(to, b" value=\"", shown.first.min(shown.last) as u64);
+}
+
 /// Returns the picture of a window of a drawing, as a page with this title that needs no other. It
 /// begins at the first line that is shown.
 pub fn html_of<N: Names>(
@@ -186,17 +194,15 @@ pub fn html_of<N: Names>(
 ) -> Result<String, AllocError> {
     let shown = drawing.shown(window);
     let picture = svg_of(alloc, drawing, names, window, title)?;
-    let mut page = String::new(alloc);
-    page.push_str(HEAD)?;
-    put_escaped(&mut page, title)?;
-    page.push_str(BEFORE)?;
-    page.push_str(picture.as_str())?;
-    page.push_str(BETWEEN)?;
-    put_escaped(&mut page, title)?;
-    page.push_str(PANEL)?;
-    let (first, last) = (shown.first.saturating_sub(1), shown.last);
-    let value = shown.first.min(last);
-    write!(page, "min=\"{first}\" max=\"{last}\" value=\"{value}\"")?;
-    page.push_str(BEHIND)?;
-    Ok(page)
+    let mut page = Page::new(alloc)?;
+    page.put(HEAD.as_bytes());
+    put_escaped(&mut page, title);
+    page.put(BEFORE.as_bytes());
+    page.put(picture.as_bytes());
+    page.put(BETWEEN.as_bytes());
+    put_escaped(&mut page, title);
+    page.put(PANEL.as_bytes());
+    put_slider(&mut page, shown);
+    page.put(BEHIND.as_bytes());
+    take_text(alloc, &mut page)
 }

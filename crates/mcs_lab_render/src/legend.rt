@@ -2,13 +2,12 @@
 use crate::bars::{put_coloured, put_state};
 use crate::naming::{Names, put_full_name};
 use crate::notes::is_ready;
-use crate::paper::{Area, put_area, put_lost_line, put_text};
+use crate::paper::{Area, put_area, put_far, put_lost_line, put_point, put_text};
 use crate::plans::{COLUMN, NoteKind, Plan, RowKind, SLOT};
-use crate::texts::columns;
+use crate::texts::{Words, columns};
 use mcs_lab_diagram::{Drawing, Look, Window};
+use mcs_lab_inspect::Page;
 use mcs_types::{Kind, ObjId};
-use std::alloc::{AllocError, Global};
-use std::fmt::Write;
 
 /// The left edge, and the widths of the samples of bars and of arrows.
 const LEFT: u64 = 12;
@@ -17,35 +16,47 @@ const BAR: u64 = 18;
 
 const ARROW: u64 = 36;
 
-/// Adds what every thread does at the end, a line each, and gives the height below them.
+/// Puts the text of words at the left edge.
+fn put_line_of(words: &mut Words, to: &mut Page, class: &str, y: u64) {
+    match words.take() {
+        Ok(text) => put_text(to, class, LEFT, y, text.as_str()),
+        Err(_) => to.cut(),
+    }
+}
+
+/// Puts where the run is.
+fn put_place(to: &mut Page, drawing: &Drawing, last: usize) {
+    if last == drawing.lines() {
+        return to.put(b"At the end");
+    }
+    to.put(b"Behind line ");
+    to.count(last);
+}
+
+/// Puts what every thread does at the end, a line each, and gives the height below them.
 pub fn put_end<N: Names>(
-    alloc: Global,
-    to: &mut String,
+    words: &mut Words,
+    to: &mut Page,
     names: &N,
     drawing: &Drawing,
     plan: &Plan,
     window: Window,
-) -> Result<u64, AllocError> {
+) -> u64 {
     let mut y = plan.end.saturating_add(24);
     let last = window.last;
-    let mut title = String::new(alloc);
-    if last == drawing.lines() {
-        title.push_str("At the end")?;
-    } else {
-        write!(title, "Behind line {last}")?;
-    }
-    put_text(to, "strong", LEFT, y, title.as_str())?;
+    put_place(&mut words.page, drawing, last);
+    put_line_of(words, to, "strong", y);
     for lane in 0..drawing.threads() {
         y = y.saturating_add(SLOT);
         let thread = drawing.thread(lane);
-        let mut text = String::new(alloc);
-        put_full_name(&mut text, names, thread)?;
-        text.push_str(" ")?;
         let look: Look = drawing.look(last, lane);
-        put_state(&mut text, names, look, drawing.is_picked(last, thread))?;
-        put_text(to, "state", LEFT, y, text.as_str())?;
+        put_full_name(&mut words.page, names, thread);
+        words.page.put(b" ");
+        let is_picked = drawing.is_picked(last, thread);
+        put_state(&mut words.page, names, look, is_picked);
+        put_line_of(words, to, "state", y);
     }
-    Ok(y)
+    y
 }
 
 /// Where the next sample of the legend is.
@@ -79,25 +90,21 @@ impl Legend {
     }
 }
 
-/// Adds the text of a sample.
-fn put_meaning(to: &mut String, area: Area, sample: u64, text: &str) -> Result<(), AllocError> {
-    put_text(
-        to,
-        "state",
-        area.x.saturating_add(sample),
-        area.y.saturating_add(11),
-        text,
-    )
+/// Puts the text of a sample.
+fn put_meaning(to: &mut Page, area: Area, sample: u64, text: &str) {
+    let (x, y) = (area.x.saturating_add(sample), area.y.saturating_add(11));
+    put_text(to, "state", x, y, text);
 }
 
-/// Adds a line as arrows have it.
-fn put_line(to: &mut String, class: &str, area: Area) -> Result<(), AllocError> {
+/// Puts a line as arrows have it.
+fn put_line(to: &mut Page, class: &str, area: Area) {
     let (x, y) = (area.x, area.y.saturating_add(7));
-    let end = x.saturating_add(ARROW - 8);
-    write!(
-        to,
-        "<path class=\"arrow {class}\" marker-end=\"url(#tip)\" d=\"M{x},{y}H{end}\"/>\n"
-    )
+    to.put(b"<path class=\"arrow ");
+    to.put(class.as_bytes());
+    to.put(b"\" marker-end=\"url(#tip)\" d=\"");
+    put_point(to, b"M", x, y);
+    put_far(to, b"H", x.saturating_add(ARROW - 8));
+    to.put(b"\"/>\n");
 }
 
 /// What of the legend is seen on a page: threads that are ready while another runs, threads that
@@ -147,101 +154,126 @@ fn seen_in(drawing: &Drawing, plan: &Plan) -> Seen {
     seen
 }
 
-/// Adds the legend below this height, and gives the height below it.
-pub fn put_legend<N: Names>(
-    alloc: Global,
-    to: &mut String,
+/// Puts what a context is called in the legend.
+fn put_context_name<N: Names>(to: &mut Page, names: &N, drawing: &Drawing, context: ObjId) {
+    to.put(b"on ");
+    put_full_name(to, names, context);
+    if let Some(core) = drawing.kernel.core(context) {
+        to.put(b", core ");
+        to.number(core.0 as u64);
+    }
+}
+
+/// Puts what the colour of a context means.
+fn put_context(to: &mut Page, legend: &mut Legend, context: ObjId, text: &str) {
+    let area = legend.next(BAR, text);
+    put_coloured(to, context, "run", area, "");
+    put_meaning(to, area, BAR, text);
+}
+
+/// Puts what the colours mean.
+fn put_contexts<N: Names>(
+    words: &mut Words,
+    to: &mut Page,
     names: &N,
     drawing: &Drawing,
-    plan: &Plan,
-    above: u64,
-) -> Result<u64, AllocError> {
-    let mut legend = Legend {
-        x: LEFT,
-        y: above.saturating_add(30),
-        width: plan.width,
-    };
+    legend: &mut Legend,
+) {
     for serial in 1..=drawing.kernel.made(Kind::Context) {
         let context = ObjId {
             kind: Kind::Context,
             serial,
         };
-        let mut text = String::new(alloc);
-        text.push_str("on ")?;
-        put_full_name(&mut text, names, context)?;
-        if let Some(core) = drawing.kernel.core(context) {
-            let core = core.0;
-            write!(text, ", core {core}")?;
+        put_context_name(&mut words.page, names, drawing, context);
+        match words.take() {
+            Ok(text) => put_context(to, legend, context, text.as_str()),
+            Err(_) => to.cut(),
         }
-        let area = legend.next(BAR, text.as_str());
-        put_coloured(to, context, "run", area, "")?;
-        put_meaning(to, area, BAR, text.as_str())?;
     }
-    let seen = seen_in(drawing, plan);
-    put_bar_kinds(to, &mut legend, seen)?;
-    put_arrow_kinds(to, &mut legend, seen)?;
-    Ok(legend.y)
 }
 
-/// Adds what bars of ready threads mean that do not run.
-fn put_ready_kinds(
-    to: &mut String,
-    legend: &mut Legend,
-    seen: Seen,
-    first: ObjId,
-) -> Result<(), AllocError> {
+/// Puts the legend below this height, and gives the height below it.
+pub fn put_legend<N: Names>(
+    words: &mut Words,
+    to: &mut Page,
+    names: &N,
+    drawing: &Drawing,
+    plan: &Plan,
+    above: u64,
+) -> u64 {
+    let mut legend = Legend {
+        x: LEFT,
+        y: above.saturating_add(30),
+        width: plan.width,
+    };
+    put_contexts(words, to, names, drawing, &mut legend);
+    let seen = seen_in(drawing, plan);
+    put_bar_kinds(to, &mut legend, seen);
+    put_arrow_kinds(to, &mut legend, seen);
+    legend.y
+}
+
+/// Puts what a bar of this class means.
+fn put_kind(to: &mut Page, legend: &mut Legend, class: &str, text: &str) {
+    let area = legend.next(BAR, text);
+    put_area(to, class, area, "");
+    put_meaning(to, area, BAR, text);
+}
+
+/// Puts what the thin bars of ready threads mean.
+fn put_bare_kind(to: &mut Page, legend: &mut Legend) {
+    let area = legend.next(BAR, "ready, no context");
+    let thin = Area {
+        x: area.x.saturating_add(5),
+        width: 2,
+        ..area
+    };
+    put_area(to, "bare", thin, "");
+    put_meaning(to, area, BAR, "ready, no context");
+}
+
+/// Puts what bars of ready threads mean that do not run.
+fn put_ready_kinds(to: &mut Page, legend: &mut Legend, seen: Seen, first: ObjId) {
     if seen.is_passed_over {
         let area = legend.next(BAR, "ready, another runs");
-        put_coloured(to, first, "ready", area, "")?;
-        put_meaning(to, area, BAR, "ready, another runs")?;
+        put_coloured(to, first, "ready", area, "");
+        put_meaning(to, area, BAR, "ready, another runs");
     }
     if seen.is_bare {
-        let area = legend.next(BAR, "ready, no context");
-        let thin = Area {
-            x: area.x.saturating_add(5),
-            width: 2,
-            ..area
-        };
-        put_area(to, "bare", thin, "")?;
-        put_meaning(to, area, BAR, "ready, no context")?;
+        put_bare_kind(to, legend);
     }
-    Ok(())
 }
 
-/// Adds what bars without a colour of their own mean.
-fn put_bar_kinds(to: &mut String, legend: &mut Legend, seen: Seen) -> Result<(), AllocError> {
+/// Puts what bars without a colour of their own mean.
+fn put_bar_kinds(to: &mut Page, legend: &mut Legend, seen: Seen) {
     let first = ObjId {
         kind: Kind::Context,
         serial: 1,
     };
-    put_ready_kinds(to, legend, seen, first)?;
-    let area = legend.next(BAR, "waits");
-    put_area(to, "wait", area, "")?;
-    put_meaning(to, area, BAR, "waits")?;
+    put_ready_kinds(to, legend, seen, first);
+    put_kind(to, legend, "wait", "waits");
     let area = legend.next(BAR, "waits, holds a context");
-    put_area(to, "wait", area, "")?;
-    put_coloured(to, first, "run", Area { width: 4, ..area }, "")?;
-    put_meaning(to, area, BAR, "waits, holds a context")?;
-    let area = legend.next(BAR, "inactive");
-    put_area(to, "idle", area, "")?;
-    put_meaning(to, area, BAR, "inactive")
+    put_area(to, "wait", area, "");
+    put_coloured(to, first, "run", Area { width: 4, ..area }, "");
+    put_meaning(to, area, BAR, "waits, holds a context");
+    put_kind(to, legend, "idle", "inactive");
 }
 
-/// Adds what arrows mean.
-fn put_arrow_kinds(to: &mut String, legend: &mut Legend, seen: Seen) -> Result<(), AllocError> {
-    for (class, text) in [
-        ("message", "message"),
-        ("answer", "answer"),
-        ("word", "signal"),
-    ] {
-        let area = legend.next(ARROW, text);
-        put_line(to, class, area)?;
-        put_meaning(to, area, ARROW, text)?;
-    }
+/// Puts what arrows of this class mean.
+fn put_arrow_kind(to: &mut Page, legend: &mut Legend, class: &str, text: &str) {
+    let area = legend.next(ARROW, text);
+    put_line(to, class, area);
+    put_meaning(to, area, ARROW, text);
+}
+
+/// Puts what arrows mean.
+fn put_arrow_kinds(to: &mut Page, legend: &mut Legend, seen: Seen) {
+    put_arrow_kind(to, legend, "message", "message");
+    put_arrow_kind(to, legend, "answer", "answer");
+    put_arrow_kind(to, legend, "word", "signal");
     if seen.is_lost {
         let area = legend.next(ARROW, "dropped: reached nobody");
-        put_lost_line(to, "", area.x, area.y.saturating_add(7))?;
-        put_meaning(to, area, ARROW, "dropped: reached nobody")?;
+        put_lost_line(to, None, area.x, area.y.saturating_add(7));
+        put_meaning(to, area, ARROW, "dropped: reached nobody");
     }
-    Ok(())
 }

@@ -1,174 +1,168 @@
 //! The picture as a `sequenceDiagram` of Mermaid.
 use crate::naming::{Names, put_full_name, put_id};
 use crate::plans::{Note, NoteKind, Plan, Row, RowKind, Stroke, plan_of};
+use crate::texts::{Words, take_text};
 use mcs_lab_diagram::{Drawing, Shown, Window};
+use mcs_lab_inspect::Page;
+use mcs_types::ObjId;
 use std::alloc::{AllocError, Global};
-use std::fmt::Write;
 
 /// Words of Mermaid's own that a name may be.
 const OWN_WORDS: &[&str] = &["actor", "as", "end", "note", "participant"];
 
 /// Returns whether Mermaid takes a word for its own, in whatever case.
-fn is_own(word: &str) -> bool {
+fn is_own(word: &[u8]) -> bool {
     for own in OWN_WORDS {
-        if word.eq_ignore_ascii_case(own) {
+        if word.eq_ignore_ascii_case(own.as_bytes()) {
             return true;
         }
     }
     false
 }
 
-/// Adds a letter by its number.
-fn put_number(to: &mut String, letter: char) -> Result<(), AllocError> {
-    let number = letter as u32;
-    write!(to, "#{number};")
+/// Puts a letter by its number.
+fn put_number(to: &mut Page, letter: u8) {
+    to.put(b"#");
+    to.number(letter as u64);
+    to.put(b";");
 }
 
-/// Adds a word: one of Mermaid's own has its first letter by its number.
-fn put_word(to: &mut String, word: &str) -> Result<(), AllocError> {
-    if !is_own(word) {
-        return to.push_str(word);
-    }
-    let mut letters = word.chars();
-    if let Some(first) = letters.next() {
-        put_number(to, first)?;
-    }
-    to.push_str(letters.as_str())
-}
-
-/// Adds what is between words, behind this letter. What ends a statement or belongs to an arrow is
-/// written by its number or name.
-fn put_between(to: &mut String, before: char, one: char) -> Result<(), AllocError> {
-    match one {
-        ';' | '#' => put_number(to, one),
-        '-' if before == '-' => put_number(to, one),
-        '<' => to.push_str("#lt;"),
-        '>' => to.push_str("#gt;"),
-        _ => to.push(one),
-    }
-}
-
-/// Adds a text; what Mermaid takes for its own is written as it wants it.
-fn put_text(to: &mut String, text: &str) -> Result<(), AllocError> {
-    let mut word = String::new(*to.allocator());
-    let mut before = ' ';
-    for one in text.chars() {
-        if one.is_ascii_alphanumeric() || one == '_' {
-            word.push(one)?;
-        } else {
-            put_word(to, word.as_str())?;
-            word.clear();
-            put_between(to, before, one)?;
+/// Puts a word: one of Mermaid's own has its first letter by its number.
+fn put_word(to: &mut Page, word: &[u8]) {
+    match word {
+        [first, rest @ ..] if is_own(word) => {
+            put_number(to, *first);
+            to.put(rest)
         }
-        before = one;
+        _ => to.put(word),
     }
-    put_word(to, word.as_str())
 }
 
-/// Adds a text, and ends the line.
-fn put_plain(to: &mut String, text: &str) -> Result<(), AllocError> {
-    put_text(to, text)?;
-    to.push('\n')
+/// Puts what is between words, behind this letter. What ends a statement or belongs to an arrow is
+/// written by its number or name.
+fn put_between(to: &mut Page, before: u8, one: u8) {
+    match one {
+        b';' | b'#' => put_number(to, one),
+        b'-' if before == b'-' => put_number(to, one),
+        b'<' => to.put(b"#lt;"),
+        b'>' => to.put(b"#gt;"),
+        _ => to.put(&[one]),
+    }
 }
 
-/// Adds a lane.
-fn put_participant<N: Names>(
-    alloc: Global,
-    to: &mut String,
-    names: &N,
-    drawing: &Drawing,
-    lane: usize,
-) -> Result<(), AllocError> {
-    let thread = drawing.thread(lane);
-    to.push_str("    participant ")?;
-    put_id(to, thread)?;
-    to.push_str(" as ")?;
-    let mut name = String::new(alloc);
-    put_full_name(&mut name, names, thread)?;
-    put_plain(to, name.as_str())
+/// Puts the word that a text has from a place on, up to another.
+fn put_word_in(to: &mut Page, text: &[u8], first: usize, end: usize) {
+    if let Some(word) = text.get(first..end) {
+        put_word(to, word);
+    }
 }
 
-/// Adds an arrow.
-fn put_message(to: &mut String, stroke: &Stroke) -> Result<(), AllocError> {
-    to.push_str("    ")?;
-    put_id(to, stroke.arrow.from.thread)?;
-    to.push_str(match stroke.arrow.shown {
+/// Puts a text; what Mermaid takes for its own is written as it wants it.
+fn put_text(to: &mut Page, text: &str) {
+    let text = text.as_bytes();
+    let mut first = 0;
+    let mut before = b' ';
+    for (at, one) in text.iter().enumerate() {
+        if !one.is_ascii_alphanumeric() && *one != b'_' {
+            put_word_in(to, text, first, at);
+            put_between(to, before, *one);
+            first = at.saturating_add(1);
+        }
+        before = *one;
+    }
+    put_word_in(to, text, first, text.len());
+}
+
+/// Puts a text, and ends the line.
+fn put_plain(to: &mut Page, text: &str) {
+    put_text(to, text);
+    to.put(b"\n");
+}
+
+/// Puts a lane.
+fn put_participant<N: Names>(words: &mut Words, to: &mut Page, names: &N, thread: ObjId) {
+    to.put(b"    participant ");
+    put_id(to, thread);
+    to.put(b" as ");
+    put_full_name(&mut words.page, names, thread);
+    match words.take() {
+        Ok(name) => put_plain(to, name.as_str()),
+        Err(_) => to.cut(),
+    }
+}
+
+/// Puts an arrow.
+fn put_message(to: &mut Page, stroke: &Stroke) {
+    let line = match stroke.arrow.shown {
         Shown::Message(_) => "->>",
         Shown::Answer(_) => "-->>",
         Shown::Word(_) => "-)",
-    })?;
-    put_id(to, stroke.arrow.to.thread)?;
-    to.push_str(": ")?;
-    put_plain(to, stroke.label.as_str())
-}
-
-/// Adds what is written beside a lane; what an arrow says is at the arrow.
-fn put_note(to: &mut String, drawing: &Drawing, note: &Note) -> Result<(), AllocError> {
-    if note.kind == NoteKind::Label {
-        return Ok(());
-    }
-    to.push_str("    Note over ")?;
-    put_id(to, drawing.thread(note.lane))?;
-    to.push_str(": ")?;
-    put_plain(to, note.text.as_str())
-}
-
-/// Adds a step that did nothing, at its thread: it was skipped, or refused.
-fn put_idle_step(to: &mut String, row: &Row) -> Result<(), AllocError> {
-    let (Some(thread), RowKind::Away | RowKind::Refused) = (row.thread, row.kind) else {
-        return Ok(());
     };
-    to.push_str("    Note over ")?;
-    put_id(to, thread)?;
-    to.push_str(": ")?;
-    put_text(to, row.step.as_str())?;
-    to.push_str(" ")?;
-    put_plain(to, row.told.as_str())
+    to.put(b"    ");
+    put_id(to, stroke.arrow.from.thread);
+    to.put(line.as_bytes());
+    put_id(to, stroke.arrow.to.thread);
+    to.put(b": ");
+    put_plain(to, stroke.label.as_str());
 }
 
-/// Adds the arrows of a row, from a place on. Behind them is the first that is left.
-fn put_messages(
-    to: &mut String,
-    strokes: &[Stroke],
-    first: usize,
-    row: usize,
-) -> Result<usize, AllocError> {
+/// Puts the beginning of what is written beside the lane of a thread.
+fn put_over(to: &mut Page, thread: ObjId) {
+    to.put(b"    Note over ");
+    put_id(to, thread);
+    to.put(b": ");
+}
+
+/// Puts what is written beside a lane; what an arrow says is at the arrow.
+fn put_note(to: &mut Page, drawing: &Drawing, note: &Note) {
+    if note.kind != NoteKind::Label {
+        put_over(to, drawing.thread(note.lane));
+        put_plain(to, note.text.as_str());
+    }
+}
+
+/// Puts a step that did nothing, at its thread: it was skipped, or refused.
+fn put_idle_step(to: &mut Page, row: &Row) {
+    let (Some(thread), RowKind::Away | RowKind::Refused) = (row.thread, row.kind) else {
+        return;
+    };
+    put_over(to, thread);
+    put_text(to, row.step.as_str());
+    to.put(b" ");
+    put_plain(to, row.told.as_str());
+}
+
+/// Puts the arrows of a row, from a place on. Gives the place of the first that is left.
+fn put_messages(to: &mut Page, strokes: &[Stroke], first: usize, row: usize) -> usize {
     for at in first..strokes.len() {
         match strokes.get(at) {
-            Some(stroke) if stroke.row == row => put_message(to, stroke)?,
-            _ => return Ok(at),
+            Some(stroke) if stroke.row == row => put_message(to, stroke),
+            _ => return at,
         }
     }
-    Ok(strokes.len())
+    strokes.len()
 }
 
 /// Puts the same of what is written beside lanes.
-fn put_notes(
-    to: &mut String,
-    drawing: &Drawing,
-    notes: &[Note],
-    first: usize,
-    row: usize,
-) -> Result<usize, AllocError> {
+fn put_notes(to: &mut Page, drawing: &Drawing, notes: &[Note], first: usize, row: usize) -> usize {
     for at in first..notes.len() {
         match notes.get(at) {
-            Some(note) if note.row == row => put_note(to, drawing, note)?,
-            _ => return Ok(at),
+            Some(note) if note.row == row => put_note(to, drawing, note),
+            _ => return at,
         }
     }
-    Ok(notes.len())
+    notes.len()
 }
 
-/// Adds the rows of a page.
-fn put_rows(to: &mut String, drawing: &Drawing, plan: &Plan) -> Result<(), AllocError> {
+/// Puts the rows of a page.
+fn put_rows(to: &mut Page, drawing: &Drawing, plan: &Plan) {
     let mut stroke = 0;
     let mut note = 0;
     for (at, row) in plan.rows.iter().enumerate() {
-        put_idle_step(to, row)?;
-        stroke = put_messages(to, plan.strokes.as_slice(), stroke, at)?;
-        note = put_notes(to, drawing, plan.notes.as_slice(), note, at)?;
+        put_idle_step(to, row);
+        stroke = put_messages(to, plan.strokes.as_slice(), stroke, at);
+        note = put_notes(to, drawing, plan.notes.as_slice(), note, at);
     }
-    Ok(())
 }
 
 /// The picture of a window of a drawing, as Mermaid's text.
@@ -179,11 +173,12 @@ pub fn mermaid_of<N: Names>(
     window: Window,
 ) -> Result<String, AllocError> {
     let plan = plan_of(alloc, drawing, names, drawing.shown(window))?;
-    let mut page = String::new(alloc);
-    page.push_str("sequenceDiagram\n")?;
+    let mut words = Words::new(alloc)?;
+    let mut page = Page::new(alloc)?;
+    page.put(b"sequenceDiagram\n");
     for lane in 0..drawing.threads() {
-        put_participant(alloc, &mut page, names, drawing, lane)?;
+        put_participant(&mut words, &mut page, names, drawing.thread(lane));
     }
-    put_rows(&mut page, drawing, &plan)?;
-    Ok(page)
+    put_rows(&mut page, drawing, &plan);
+    take_text(alloc, &mut page)
 }

@@ -2,18 +2,34 @@
 use crate::naming::{Names, put_name, put_queue};
 use mcs_book::{Book, Line};
 use mcs_lab_diagram::{Arrow, Look, Point, Shown, Strokes};
+use mcs_lab_inspect::Page;
 use mcs_types::{Ending, Entry, Kind, Message, ObjId, Rec, SendMode, Status};
-use std::alloc::{AllocError, Global};
-use std::fmt::Write;
+use std::alloc::Global;
 
-/// Adds the label and the words of a message.
-fn put_message(to: &mut String, message: &Message) -> Result<(), AllocError> {
-    let label = message.label();
-    write!(to, ": {label}")?;
+/// Puts a text and a number.
+fn put_numbered(to: &mut Page, text: &str, number: u64) {
+    to.put(text.as_bytes());
+    to.number(number);
+}
+
+/// Puts a text and a name.
+fn put_named<N: Names>(to: &mut Page, names: &N, text: &str, object: ObjId) {
+    to.put(text.as_bytes());
+    put_name(to, names, object);
+}
+
+/// Puts a name and a text.
+fn put_said<N: Names>(to: &mut Page, names: &N, object: ObjId, text: &str) {
+    put_name(to, names, object);
+    to.put(text.as_bytes());
+}
+
+/// Puts the label and the words of a message.
+fn put_message(to: &mut Page, message: &Message) {
+    put_numbered(to, ": ", message.label());
     for word in message.words() {
-        write!(to, " {word}")?;
+        put_numbered(to, " ", *word);
     }
-    Ok(())
 }
 
 /// How a message was sent.
@@ -26,83 +42,82 @@ fn mode_word(mode: SendMode) -> &'static str {
     }
 }
 
-/// Adds the message that a line sent.
-fn put_sent<N: Names>(
-    alloc: Global,
-    to: &mut String,
-    names: &N,
-    line: &Line<'_>,
-) -> Result<(), AllocError> {
+/// Puts what a record says of a message that was sent.
+fn put_sent<N: Names>(to: &mut Page, names: &N, fact: &Rec) {
+    if let Rec::Sent {
+        endpoint,
+        mode,
+        badge,
+        message,
+        ..
+    } = fact
+    {
+        to.put(mode_word(*mode).as_bytes());
+        put_named(to, names, " ", *endpoint);
+        put_numbered(to, " badge ", badge.0);
+        put_message(to, message);
+    }
+}
+
+/// Puts the message that a line sent.
+fn put_sent_by<N: Names>(alloc: Global, to: &mut Page, names: &N, line: &Line<'_>) {
     for i in 0..line.record_count() {
         let Some(kept) = line.kept_record(i) else {
             continue;
         };
-        if !kept.is_sent() {
-            continue;
+        if kept.is_sent() {
+            return match kept.unpack(alloc) {
+                Ok(fact) => put_sent(to, names, &fact),
+                Err(_) => to.cut(),
+            };
         }
-        let Ok(
-            Rec::Sent {
-                endpoint,
-                mode,
-                badge,
-                message,
-                ..
-            },
-        ) = kept.unpack(alloc)
-        else {
-            return Err(AllocError);
-        };
-        to.push_str(mode_word(mode))?;
-        to.push_str(" ")?;
-        put_name(to, names, endpoint)?;
-        let badge = badge.0;
-        write!(to, " badge {badge}")?;
-        return put_message(to, &message);
     }
-    Ok(())
 }
 
-/// Adds what the record of an arrow says: the badge, label and words of a message, those of an
+/// Puts the name of a message.
+fn put_message_name(to: &mut Page, number: u32) {
+    put_numbered(to, "m", number as u64);
+}
+
+/// Puts what the record of an arrow says: the badge, label and words of a message, those of an
 /// answer, or a word.
 pub fn put_label<N: Names>(
     alloc: Global,
-    to: &mut String,
+    to: &mut Page,
     names: &N,
     book: &Book,
     arrow: &Arrow,
     fact: &Rec,
-) -> Result<(), AllocError> {
+) {
     match (arrow.shown, fact) {
         (Shown::Message(number), _) => {
-            write!(to, "m{number}")?;
-            match book.line(arrow.from.row) {
-                Some(line) => put_sent(alloc, to, names, &line),
-                None => Ok(()),
+            put_message_name(to, number);
+            if let Some(line) = book.line(arrow.from.row) {
+                put_sent_by(alloc, to, names, &line);
             }
         }
         (Shown::Answer(reply), Rec::Paid { message, .. }) => {
-            put_name(to, names, reply)?;
-            to.push_str(" answers")?;
+            put_said(to, names, reply, " answers");
             put_message(to, message)
         }
         (Shown::Word(notification), Rec::Heard { word, .. }) => {
-            put_name(to, names, notification)?;
-            write!(to, " heard: {word}")
+            put_name(to, names, notification);
+            put_numbered(to, " heard: ", *word)
         }
-        _ => Ok(()),
+        _ => {}
     }
 }
 
-/// Adds what an entry sent to nobody.
-pub fn put_lost(to: &mut String, entry: &Entry) -> Result<(), AllocError> {
-    to.push_str("to nobody")?;
+/// Puts what an entry sent to nobody.
+pub fn put_lost(to: &mut Page, entry: &Entry) {
+    to.put(b"to nobody");
     match entry {
         Entry::Send { message, .. }
         | Entry::NbSend { message, .. }
         | Entry::ReplyRecv { message, .. }
         | Entry::NbSendRecv { message, .. }
         | Entry::NbSendWait { message, .. } => put_message(to, message),
-        _ => Ok(()),
+        _ => {}
     }
 }
 
@@ -111,50 +126,31 @@ pub fn is_ready(status: Option<Status>) -> bool {
     matches!(status, Some(Status::Running | Status::Restart))
 }
 
-/// Adds the context on which a thread runs.
-fn put_runs_on<N: Names>(
-    to: &mut String,
-    names: &N,
-    context: Option<ObjId>,
-) -> Result<(), AllocError> {
-    match context {
-        Some(context) => {
-            to.push_str("on ")?;
-            put_name(to, names, context)
+/// Puts what a thread does.
+pub fn put_look<N: Names>(to: &mut Page, names: &N, look: Look) {
+    match (look.status, look.context) {
+        (Some(Status::Running | Status::Restart), Some(context)) => {
+            put_named(to, names, "on ", context)
         }
-        None => to.push_str("no context"),
-    }
-}
-
-/// Adds what a thread does.
-pub fn put_look<N: Names>(to: &mut String, names: &N, look: Look) -> Result<(), AllocError> {
-    match look.status {
-        Some(Status::Running | Status::Restart) => put_runs_on(to, names, look.context),
-        Some(Status::Queued(queue)) => {
-            to.push_str("waits in ")?;
+        (Some(Status::Running | Status::Restart), None) => to.put(b"no context"),
+        (Some(Status::Queued(queue)), _) => {
+            to.put(b"waits in ");
             put_queue(to, names, queue)
         }
-        Some(Status::OnReply(reply)) => {
-            to.push_str("waits for an answer by ")?;
-            put_name(to, names, reply)
-        }
-        Some(Status::Inactive) => to.push_str("inactive"),
-        Some(Status::Closed) | None => to.push_str("closed"),
+        (Some(Status::OnReply(reply)), _) => put_named(to, names, "waits for an answer by ", reply),
+        (Some(Status::Inactive), _) => to.put(b"inactive"),
+        (Some(Status::Closed) | None, _) => to.put(b"closed"),
     }
 }
 
-/// Adds what a thread does, and the context that it holds while it does not run.
-pub fn put_whole_look<N: Names>(to: &mut String, names: &N, look: Look) -> Result<(), AllocError> {
-    put_look(to, names, look)?;
+/// Puts what a thread does, and the context that it holds while it does not run.
+pub fn put_whole_look<N: Names>(to: &mut Page, names: &N, look: Look) {
+    put_look(to, names, look);
     if is_ready(look.status) {
-        return Ok(());
+        return;
     }
-    match look.context {
-        Some(context) => {
-            to.push_str(", holds ")?;
-            put_name(to, names, context)
-        }
-        None => Ok(()),
+    if let Some(context) = look.context {
+        put_named(to, names, ", holds ", context);
     }
 }
 
@@ -183,72 +179,65 @@ pub fn marked(strokes: &Strokes, here: Point, fact: &Rec) -> Option<ObjId> {
     }
 }
 
-/// Adds the mark of a notification that was raised, or of a context without a holder.
-fn put_word_mark<N: Names>(to: &mut String, names: &N, fact: &Rec) -> Result<(), AllocError> {
+/// Puts words and a name, or that there is none.
+fn put_end<N: Names>(to: &mut Page, names: &N, words: &str, object: Option<ObjId>) {
+    match object {
+        Some(object) => put_named(to, names, words, object),
+        None => {
+            to.put(words.as_bytes());
+            to.put(b"none")
+        }
+    }
+}
+
+/// Puts the mark of a notification that was raised, or of a context without a holder.
+fn put_word_mark<N: Names>(to: &mut Page, names: &N, fact: &Rec) {
     match fact {
         Rec::Raised {
             notification,
             badge,
         } => {
-            let badge = badge.0;
-            put_name(to, names, *notification)?;
-            write!(to, " raised: {badge}")
+            put_name(to, names, *notification);
+            put_numbered(to, " raised: ", badge.0)
         }
-        Rec::Holds { context, .. } => {
-            put_name(to, names, *context)?;
-            to.push_str(" held by none")
-        }
+        Rec::Holds { context, .. } => put_said(to, names, *context, " held by none"),
         Rec::Homed {
             context,
             notification,
         } => {
-            put_name(to, names, *context)?;
+            put_name(to, names, *context);
             put_end(to, names, " homed at ", *notification)
         }
         Rec::Tied { notification, .. } => put_end(to, names, "bound to ", *notification),
-        _ => Ok(()),
+        _ => {}
     }
 }
 
-/// Adds words and a name, or that there is none.
-fn put_end<N: Names>(
-    to: &mut String,
-    names: &N,
-    words: &str,
-    object: Option<ObjId>,
-) -> Result<(), AllocError> {
-    to.push_str(words)?;
-    match object {
-        Some(object) => put_name(to, names, object),
-        None => to.push_str("none"),
+/// Says how a reply object was ended.
+fn void_word(ending: Ending) -> &'static str {
+    match ending {
+        Ending::Deleted => " void (deleted)",
+        Ending::Cancelled => " void (cancelled)",
     }
 }
 
-/// Adds the mark of a record.
-pub fn put_mark<N: Names>(to: &mut String, names: &N, fact: &Rec) -> Result<(), AllocError> {
+/// Puts what ended, behind a cross.
+fn put_ended<N: Names>(to: &mut Page, names: &N, object: ObjId, text: &str) {
+    to.put("✗ ".as_bytes());
+    put_said(to, names, object, text);
+}
+
+/// Puts the mark of a record.
+pub fn put_mark<N: Names>(to: &mut Page, names: &N, fact: &Rec) {
     match fact {
-        Rec::Dropped { message } => write!(to, "✗ m{message} dropped"),
-        Rec::Void { reply, ending, .. } => {
-            to.push_str("✗ ")?;
-            put_name(to, names, *reply)?;
-            to.push_str(match ending {
-                Ending::Deleted => " void (deleted)",
-                Ending::Cancelled => " void (cancelled)",
-            })
+        Rec::Dropped { message } => {
+            put_numbered(to, "✗ m", *message as u64);
+            to.put(b" dropped")
         }
-        Rec::Prio { priority, .. } => {
-            let priority = priority.0;
-            write!(to, "priority {priority}")
-        }
-        Rec::Made { object, .. } => {
-            put_name(to, names, *object)?;
-            to.push_str(" made")
-        }
-        Rec::Closed { object } => {
-            to.push_str("✗ ")?;
-            put_name(to, names, *object)?;
-            to.push_str(" closed")
-        }
+        Rec::Void { reply, ending, .. } => put_ended(to, names, *reply, void_word(*ending)),
+        Rec::Prio { priority, .. } => put_numbered(to, "priority ", priority.0 as u64),
+        Rec::Made { object, .. } => put_said(to, names, *object, " made"),
+        Rec::Closed { object } => put_ended(to, names, *object, " closed"),
         _ => put_word_mark(to, names, fact),
     }
 }

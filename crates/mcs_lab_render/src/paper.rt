@@ -1,7 +1,6 @@
 //! The marks of an SVG page.
 use crate::texts::put_escaped;
-use std::alloc::AllocError;
-use std::fmt::Write;
+use mcs_lab_inspect::Page;
 
 /// A box on the page.
 #[derive(Clone, Copy)]
@@ -12,37 +11,57 @@ pub struct Area {
     pub height: u64,
 }
 
-/// Adds a text whose baseline begins, is in the middle or ends at a place, as its class says.
-pub fn put_text(
-    to: &mut String,
-    class: &str,
-    x: u64,
-    y: u64,
-    text: &str,
-) -> Result<(), AllocError> {
-    write!(to, "<text class=\"{class}\" x=\"{x}\" y=\"{y}\">")?;
-    put_escaped(to, text)?;
-    to.push_str("</text>\n")
+/// Puts an attribute whose value is a number, from its name up to the quote behind it.
+pub fn put_attribute(to: &mut Page, name: &[u8], value: u64) {
+    to.put(name);
+    to.number(value);
+    to.put(b"\"");
 }
 
-/// Adds a box, over which a pointer shows the title.
-pub fn put_area(to: &mut String, class: &str, area: Area, title: &str) -> Result<(), AllocError> {
-    let Area {
-        x,
-        y,
-        width,
-        height,
-    } = area;
-    write!(
-        to,
-        "<rect class=\"{class}\" x=\"{x}\" y=\"{y}\" width=\"{width}\" height=\"{height}\""
-    )?;
+/// Puts a command of a path, and where it leads.
+pub fn put_point(to: &mut Page, command: &[u8], x: u64, y: u64) {
+    to.put(command);
+    to.number(x);
+    to.put(b",");
+    to.number(y);
+}
+
+/// Puts a command of a path that has one number.
+pub fn put_far(to: &mut Page, command: &[u8], at: u64) {
+    to.put(command);
+    to.number(at);
+}
+
+/// Puts a text whose baseline begins, is in the middle or ends at a place, as its class says.
+pub fn put_text(to: &mut Page, class: &str, x: u64, y: u64, text: &str) {
+    to.put(b"<text class=\"");
+    to.put(class.as_bytes());
+    put_attribute(to, b"\" x=\"", x);
+    put_attribute(to, b" y=\"", y);
+    to.put(b">");
+    put_escaped(to, text);
+    to.put(b"</text>\n");
+}
+
+/// Puts a box up to the end of its attributes.
+fn put_box(to: &mut Page, class: &str, area: Area) {
+    to.put(b"<rect class=\"");
+    to.put(class.as_bytes());
+    put_attribute(to, b"\" x=\"", area.x);
+    put_attribute(to, b" y=\"", area.y);
+    put_attribute(to, b" width=\"", area.width);
+    put_attribute(to, b" height=\"", area.height);
+}
+
+/// Puts a box, over which a pointer shows the title.
+pub fn put_area(to: &mut Page, class: &str, area: Area, title: &str) {
+    put_box(to, class, area);
     if title.is_empty() {
-        return to.push_str("/>\n");
+        return to.put(b"/>\n");
     }
-    to.push_str("><title>")?;
-    put_escaped(to, title)?;
-    to.push_str("</title></rect>\n")
+    to.put(b"><title>");
+    put_escaped(to, title);
+    to.put(b"</title></rect>\n");
 }
 
 /// How far a send that reached nobody goes, and how much farther off its lane its text is.
@@ -50,15 +69,29 @@ const LOST: u64 = 16;
 
 pub const LOST_TEXT: u64 = 18;
 
-/// Adds the line of a send that reached nobody, from a place to the right: it ends in a cross.
-pub fn put_lost_line(to: &mut String, data: &str, x: u64, y: u64) -> Result<(), AllocError> {
-    let end = x.saturating_add(LOST);
-    let (left, right) = (end.saturating_sub(3), end.saturating_add(3));
+/// Puts a cross.
+fn put_cross(to: &mut Page, x: u64, y: u64) {
+    let (left, right) = (x.saturating_sub(3), x.saturating_add(3));
     let (up, down) = (y.saturating_sub(3), y.saturating_add(3));
-    write!(
-        to,
-        "<path class=\"arrow lost\"{data} d=\"M{left},{up}L{right},{down}M{left},{down}L{right},{up}M{x},{y}H{end}\"/>\n"
-    )
+    put_point(to, b"M", left, up);
+    put_point(to, b"L", right, down);
+    put_point(to, b"M", left, down);
+    put_point(to, b"L", right, up);
+}
+
+/// Puts the line of a send that reached nobody, of this line of the book, from a place to the
+/// right: it ends in a cross.
+pub fn put_lost_line(to: &mut Page, number: Option<usize>, x: u64, y: u64) {
+    let end = x.saturating_add(LOST);
+    to.put(b"<path class=\"arrow lost\"");
+    if let Some(number) = number {
+        put_attribute(to, b" data-line=\"", number as u64);
+    }
+    to.put(b" d=\"");
+    put_cross(to, end, y);
+    put_point(to, b"M", x, y);
+    put_far(to, b"H", end);
+    to.put(b"\"/>\n");
 }
 
 /// The page's styles: colours that most readers tell apart, by Okabe and Ito, on a light and on a

@@ -5,14 +5,13 @@
 use crate::naming::{Names, put_name};
 use crate::notes::{has_note, marked, put_label, put_look, put_lost, put_mark};
 use crate::paper::LOST_TEXT;
-use crate::texts::{columns, cut};
+use crate::texts::{Words, columns, cut};
 use mcs_book::Line as BookLine;
 use mcs_kernel::EnterFault;
 use mcs_lab_diagram::{Arrow, Away, Drawing, Point, Window, is_dropped};
 use mcs_trace::{Line, spell_answer, spell_step};
 use mcs_types::{BootLine, CoreId, ObjId, Rec};
 use std::alloc::{AllocError, Global};
-use std::fmt::Write;
 use std::str;
 
 /// The height of a slot, and the width of a column of its text.
@@ -141,6 +140,7 @@ struct Planner<'a, N> {
     line_rows: Vec<usize>,
     first: usize,
     word: Box<Line>,
+    words: Words,
     marks: Vec<String>,
     next_arrow: usize,
     next_away: usize,
@@ -163,6 +163,22 @@ fn entry_part(step: &str) -> &str {
     }
 }
 
+/// Returns the text of a step, with the name of its thread.
+fn step_text<N: Names>(
+    words: &mut Words,
+    names: &N,
+    core: CoreId,
+    thread: ObjId,
+    entry: &str,
+) -> Result<String, AllocError> {
+    words.page.number(core.0 as u64);
+    words.page.put(b" ");
+    put_name(&mut words.page, names, thread);
+    words.page.put(b" ");
+    words.page.put(entry.as_bytes());
+    words.take_cut(STEP_COLUMNS)
+}
+
 impl<'a, N: Names> Planner<'a, N> {
     /// An empty row.
     fn new_row(&self, kind: RowKind, number: usize, thread: Option<ObjId>) -> Row {
@@ -176,17 +192,6 @@ impl<'a, N: Names> Planner<'a, N> {
             slots: 2,
             top: 0,
         }
-    }
-
-    /// The text of a step, with the name of its thread.
-    fn step_text(&self, core: CoreId, thread: ObjId, entry: &str) -> Result<String, AllocError> {
-        let mut text = String::new(self.alloc);
-        let core = core.0;
-        write!(text, "{core} ")?;
-        put_name(&mut text, self.names, thread)?;
-        text.push(' ')?;
-        text.push_str(entry)?;
-        cut(self.alloc, text.as_str(), STEP_COLUMNS)
     }
 
     /// Adds a note of a row that is made, in the next slot of its lane.
@@ -221,8 +226,9 @@ impl<'a, N: Names> Planner<'a, N> {
             "the lines before"
         })?;
         for lane in 0..self.drawing.threads() {
-            let mut text = String::new(self.alloc);
-            put_look(&mut text, self.names, self.drawing.look(at, lane))?;
+            let look = self.drawing.look(at, lane);
+            put_look(&mut self.words.page, self.names, look);
+            let text = self.words.take()?;
             let mut used = 0;
             self.add_note(&mut row, &mut used, lane, NoteKind::State, text.as_str())?;
         }
@@ -249,15 +255,14 @@ impl<'a, N: Names> Planner<'a, N> {
             return Ok(());
         };
         self.next_arrow = self.next_arrow.saturating_add(1);
-        let mut label = String::new(self.alloc);
         put_label(
             self.alloc,
-            &mut label,
+            &mut self.words.page,
             self.names,
             self.drawing.book(),
             &arrow,
             fact,
-        )?;
+        );
         let here = self.plan.rows.len();
         let from_row = if arrow.from.row == arrow.to.row {
             here
@@ -269,7 +274,7 @@ impl<'a, N: Names> Planner<'a, N> {
             from_row,
             row: here,
             slot: row.arrows,
-            label: cut(self.alloc, label.as_str(), NOTE_COLUMNS)?,
+            label: self.words.take_cut(NOTE_COLUMNS)?,
         })?;
         row.arrows = row.arrows.saturating_add(1);
         row.slots = row.slots.max(row.arrows);
@@ -285,7 +290,8 @@ impl<'a, N: Names> Planner<'a, N> {
             if !mark.is_empty() {
                 mark.push_str("; ")?;
             }
-            put_mark(mark, self.names, fact)?;
+            put_mark(&mut self.words.page, self.names, fact);
+            mark.push_str(self.words.take()?.as_str())?;
         }
         Ok(())
     }
@@ -327,8 +333,8 @@ impl<'a, N: Names> Planner<'a, N> {
         let Ok(step) = line.step(self.alloc) else {
             return Err(AllocError);
         };
-        let mut text = String::new(self.alloc);
-        put_lost(&mut text, &step.entry)?;
+        put_lost(&mut self.words.page, &step.entry);
+        let text = self.words.take()?;
         self.add_note(row, used, lane, NoteKind::Lost, text.as_str())
     }
 
@@ -349,8 +355,8 @@ impl<'a, N: Names> Planner<'a, N> {
         let before = self.drawing.look(number.saturating_sub(1), lane);
         let now = self.drawing.look(number, lane);
         if has_note(before, now) {
-            let mut text = String::new(self.alloc);
-            put_look(&mut text, self.names, now)?;
+            put_look(&mut self.words.page, self.names, now);
+            let text = self.words.take()?;
             self.add_note(row, &mut used, lane, NoteKind::State, text.as_str())?;
         }
         let mut mark = String::new(self.alloc);
@@ -369,7 +375,13 @@ impl<'a, N: Names> Planner<'a, N> {
         let kept = line.kept_step();
         let mut row = self.new_row(RowKind::Line, here.row, Some(here.thread));
         spell_step(&mut self.word, &kept);
-        row.step = self.step_text(kept.core, here.thread, entry_part(spelled(&self.word)))?;
+        row.step = step_text(
+            &mut self.words,
+            self.names,
+            kept.core,
+            here.thread,
+            entry_part(spelled(&self.word)),
+        )?;
         spell_answer(&mut self.word, &line.kept_answer());
         let told = spelled(&self.word);
         if told.starts_with("= refused") {
@@ -441,7 +453,13 @@ impl<'a, N: Names> Planner<'a, N> {
     /// Adds the row of a step that was skipped.
     fn add_away(&mut self, away: &Away) -> Result<(), AllocError> {
         let mut row = self.new_row(RowKind::Away, away.behind, Some(away.thread));
-        row.step = self.step_text(away.core, away.thread, entry_part(away.text.as_str()))?;
+        row.step = step_text(
+            &mut self.words,
+            self.names,
+            away.core,
+            away.thread,
+            entry_part(away.text.as_str()),
+        )?;
         row.told.push_str(match away.why {
             EnterFault::NotRunning => "turned away: it does not run",
             EnterFault::NoContext => "turned away: it holds no context",
@@ -506,11 +524,8 @@ impl<'a, N: Names> Planner<'a, N> {
     /// Writes what is in the heads of the lanes.
     fn add_heads(&mut self) -> Result<(), AllocError> {
         for lane in 0..self.drawing.threads() {
-            let mut head = String::new(self.alloc);
-            put_name(&mut head, self.names, self.drawing.thread(lane))?;
-            self.plan
-                .heads
-                .push(cut(self.alloc, head.as_str(), NOTE_COLUMNS)?)?;
+            put_name(&mut self.words.page, self.names, self.drawing.thread(lane));
+            self.plan.heads.push(self.words.take_cut(NOTE_COLUMNS)?)?;
             self.marks.push(String::new(self.alloc))?;
         }
         Ok(())
@@ -646,6 +661,7 @@ pub fn plan_of<N: Names>(
         line_rows: Vec::new(alloc),
         first: window.first,
         word: Box::new(alloc, Line::new())?,
+        words: Words::new(alloc)?,
         marks: Vec::new(alloc),
         next_arrow: 0,
         next_away: 0,

@@ -2,15 +2,17 @@
 use crate::bars::{event_of, put_bars};
 use crate::legend::{put_end, put_legend};
 use crate::naming::{Names, put_full_name};
-use crate::paper::{Area, LOST_TEXT, STYLE, put_area, put_lost_line, put_text};
+use crate::paper::{
+    Area, LOST_TEXT, STYLE, put_area, put_attribute, put_far, put_lost_line, put_point, put_text,
+};
 use crate::plans::{
     ARROW_AT, BESIDE, CLEAR, HEAD, LABEL_AT, NUMBERS_AT, Note, NoteKind, Plan, Row, RowKind, SLOT,
     STEPS_AT, Stroke, TEXT_AT, gap_of, lane_of, plan_of,
 };
-use crate::texts::{columns, put_escaped};
+use crate::texts::{Words, columns, put_escaped, take_text};
 use mcs_lab_diagram::{Drawing, Shown, Window};
+use mcs_lab_inspect::Page;
 use std::alloc::{AllocError, Global};
-use std::fmt::Write;
 
 /// How far from a lane an arrow begins, how far from it its tip is, and where one to its own lane
 /// turns back.
@@ -28,79 +30,101 @@ fn lane_at(plan: &Plan, lane: usize) -> u64 {
     plan.lanes.get(lane).copied().unwrap_or(0)
 }
 
-/// Adds the heads of the lanes.
-fn put_heads(to: &mut String, plan: &Plan) -> Result<(), AllocError> {
-    to.push_str("<g class=\"heads\">\n")?;
-    for (lane, head) in plan.heads.iter().enumerate() {
-        let x = lane_at(plan, lane);
-        let half = columns(head.as_str()).max(12).saturating_mul(7) / 2 + 6;
-        let area = Area {
-            x: x.saturating_sub(half),
-            y: 14,
-            width: half.saturating_mul(2),
-            height: HEAD - 20,
-        };
-        put_area(to, "head", area, "")?;
-        put_text(to, "head-text", x, 32, head.as_str())?;
-        if let Some(priority) = plan.priorities.get(lane) {
-            write!(
-                to,
-                "<text class=\"head-more\" x=\"{x}\" y=\"48\">priority {priority}</text>\n"
-            )?;
-        }
+/// Puts the head of a lane.
+fn put_head(to: &mut Page, plan: &Plan, lane: usize, head: &str) {
+    let x = lane_at(plan, lane);
+    let half = columns(head).max(12).saturating_mul(7) / 2 + 6;
+    let area = Area {
+        x: x.saturating_sub(half),
+        y: 14,
+        width: half.saturating_mul(2),
+        height: HEAD - 20,
+    };
+    put_area(to, "head", area, "");
+    put_text(to, "head-text", x, 32, head);
+    if let Some(priority) = plan.priorities.get(lane) {
+        put_attribute(to, b"<text class=\"head-more\" x=\"", x);
+        to.put(b" y=\"48\">priority ");
+        to.number(*priority as u64);
+        to.put(b"</text>\n");
     }
-    to.push_str("</g>\n")
 }
 
-/// Adds the left margin of a row, and the line across it.
-fn put_margin(to: &mut String, plan: &Plan, row: &Row) -> Result<(), AllocError> {
-    let (top, width) = (row.top.saturating_sub(5), plan.width.saturating_sub(8));
-    write!(to, "<path class=\"rule\" d=\"M8,{top}H{width}\"/>\n")?;
-    let first = row.top.saturating_add(TEXT_AT);
+/// Puts the heads of the lanes.
+fn put_heads(to: &mut Page, plan: &Plan) {
+    to.put(b"<g class=\"heads\">\n");
+    for (lane, head) in plan.heads.iter().enumerate() {
+        put_head(to, plan, lane, head.as_str());
+    }
+    to.put(b"</g>\n");
+}
+
+/// Puts the line across a row.
+fn put_rule(to: &mut Page, plan: &Plan, row: &Row) {
+    put_far(
+        to,
+        b"<path class=\"rule\" d=\"M8,",
+        row.top.saturating_sub(5),
+    );
+    put_far(to, b"H", plan.width.saturating_sub(8));
+    to.put(b"\"/>\n");
+}
+
+/// Puts the beginning of a row of this line of the book.
+fn put_row(to: &mut Page, number: usize) {
+    put_attribute(to, b"<g class=\"row\" data-line=\"", number as u64);
+    to.put(b">");
+}
+
+/// Puts the number of a line, its step and its answer.
+fn put_told(to: &mut Page, row: &Row, class: &str, first: u64) {
+    put_row(to, row.number);
+    put_attribute(to, b"<text class=\"number\" x=\"", NUMBERS_AT);
+    put_attribute(to, b" y=\"", first);
+    to.put(b">");
+    to.count(row.number);
+    to.put(b"</text>\n");
+    put_text(to, "step", STEPS_AT, first, row.step.as_str());
     let second = first.saturating_add(SLOT);
-    let number = row.number;
+    put_text(to, class, STEPS_AT, second, row.told.as_str());
+    to.put(b"</g>\n");
+}
+
+/// Puts the left margin of a row, and the line across it.
+fn put_margin(to: &mut Page, plan: &Plan, row: &Row) {
+    put_rule(to, plan, row);
+    let first = row.top.saturating_add(TEXT_AT);
     match row.kind {
         RowKind::Start => {
-            write!(to, "<g class=\"row\" data-line=\"{number}\">")?;
-            put_text(to, "away", STEPS_AT, first, row.step.as_str())?;
-            to.push_str("</g>\n")
+            put_row(to, row.number);
+            put_text(to, "away", STEPS_AT, first, row.step.as_str());
+            to.put(b"</g>\n")
         }
         RowKind::Away => {
-            put_text(to, "away", STEPS_AT, first, row.step.as_str())?;
+            put_text(to, "away", STEPS_AT, first, row.step.as_str());
+            let second = first.saturating_add(SLOT);
             put_text(to, "away", STEPS_AT, second, row.told.as_str())
         }
-        RowKind::Line | RowKind::Refused => {
-            write!(
-                to,
-                "<g class=\"row\" data-line=\"{number}\"><text class=\"number\" x=\"{NUMBERS_AT}\" y=\"{first}\">{number}</text>\n"
-            )?;
-            put_text(to, "step", STEPS_AT, first, row.step.as_str())?;
-            let class = if row.kind == RowKind::Refused {
-                "refused"
-            } else {
-                "told"
-            };
-            put_text(to, class, STEPS_AT, second, row.told.as_str())?;
-            to.push_str("</g>\n")
-        }
+        RowKind::Line => put_told(to, row, "told", first),
+        RowKind::Refused => put_told(to, row, "refused", first),
     }
 }
 
-/// Adds the dot of the thread that enters.
-fn put_dot(to: &mut String, plan: &Plan, row: &Row) -> Result<(), AllocError> {
+/// Puts the dot of the thread that enters.
+fn put_dot(to: &mut Page, plan: &Plan, row: &Row) {
     let Some(thread) = row.thread else {
-        return Ok(());
+        return;
     };
-    let (x, y) = (lane_at(plan, lane_of(thread)), event_of(row));
     let class = if row.kind == RowKind::Away {
         "idle-dot"
     } else {
         "dot"
     };
-    write!(
-        to,
-        "<circle class=\"{class}\" cx=\"{x}\" cy=\"{y}\" r=\"3.5\"/>\n"
-    )
+    to.put(b"<circle class=\"");
+    to.put(class.as_bytes());
+    put_attribute(to, b"\" cx=\"", lane_at(plan, lane_of(thread)));
+    put_attribute(to, b" cy=\"", event_of(row));
+    to.put(b" r=\"3.5\"/>\n");
 }
 
 /// The top of a slot of a row.
@@ -121,62 +145,81 @@ fn aside(x: u64, is_right: bool, far: u64) -> u64 {
     }
 }
 
-/// Adds the line of an arrow. One that waited runs down beside its lane to the slot in which it
-/// crosses over.
-fn put_path(to: &mut String, plan: &Plan, stroke: &Stroke) -> Result<(), AllocError> {
-    let (from, end) = (stroke.arrow.from.thread, stroke.arrow.to.thread);
-    let (a, b) = (lane_at(plan, lane_of(from)), lane_at(plan, lane_of(end)));
-    let top = slot_top(plan, stroke.row, stroke.slot);
-    let y = top.saturating_add(ARROW_AT);
-    if from.is_same(end) {
-        let (x, far) = (aside(a, true, TIP), aside(a, true, TURN));
-        let (up, back) = (top.saturating_add(1), top.saturating_add(LABEL_AT));
-        return write!(to, "M{x},{up}H{far}V{back}H{x}");
-    }
-    let is_right = a < b;
-    let (x, tip) = (aside(a, is_right, EDGE), aside(b, !is_right, TIP));
-    match plan.rows.get(stroke.from_row) {
-        Some(row) if stroke.from_row != stroke.row => {
-            let (start, down) = (event_of(row), aside(a, is_right, BESIDE));
-            write!(to, "M{x},{start}H{down}V{top}L{tip},{y}")
-        }
-        _ => write!(to, "M{x},{y}L{tip},{y}"),
-    }
+/// Puts the line of an arrow to its own lane.
+fn put_turn(to: &mut Page, lane: u64, top: u64) {
+    let x = lane.saturating_add(TIP);
+    put_point(to, b"M", x, top.saturating_add(1));
+    put_far(to, b"H", lane.saturating_add(TURN));
+    put_far(to, b"V", top.saturating_add(LABEL_AT));
+    put_far(to, b"H", x);
 }
 
-/// Adds an arrow, over which a pointer shows its label.
-fn put_stroke<N: Names>(
-    to: &mut String,
-    names: &N,
-    plan: &Plan,
-    stroke: &Stroke,
-) -> Result<(), AllocError> {
-    let class = match stroke.arrow.shown {
+/// Puts the line of an arrow from one lane to another. One that waited runs down beside its lane to
+/// the slot in which it crosses over.
+fn put_way(to: &mut Page, plan: &Plan, stroke: &Stroke, a: u64, b: u64) {
+    let top = slot_top(plan, stroke.row, stroke.slot);
+    let y = top.saturating_add(ARROW_AT);
+    let is_right = a < b;
+    let x = aside(a, is_right, EDGE);
+    match plan.rows.get(stroke.from_row) {
+        Some(row) if stroke.from_row != stroke.row => {
+            put_point(to, b"M", x, event_of(row));
+            put_far(to, b"H", aside(a, is_right, BESIDE));
+            put_far(to, b"V", top);
+        }
+        _ => put_point(to, b"M", x, y),
+    }
+    put_point(to, b"L", aside(b, !is_right, TIP), y);
+}
+
+/// Puts the line of an arrow.
+fn put_path(to: &mut Page, plan: &Plan, stroke: &Stroke) {
+    let (from, end) = (stroke.arrow.from.thread, stroke.arrow.to.thread);
+    let (a, b) = (lane_at(plan, lane_of(from)), lane_at(plan, lane_of(end)));
+    if from.is_same(end) {
+        return put_turn(to, a, slot_top(plan, stroke.row, stroke.slot));
+    }
+    put_way(to, plan, stroke, a, b);
+}
+
+/// Puts what a pointer shows over an arrow.
+fn put_hint<N: Names>(to: &mut Page, names: &N, stroke: &Stroke) {
+    put_full_name(to, names, stroke.arrow.from.thread);
+    to.put(b" to ");
+    put_full_name(to, names, stroke.arrow.to.thread);
+    to.put(b": ");
+    to.put(stroke.label.as_bytes());
+}
+
+/// Returns the class of an arrow.
+fn class_of(shown: Shown) -> &'static str {
+    match shown {
         Shown::Message(_) => "message",
         Shown::Answer(_) => "answer",
         Shown::Word(_) => "word",
-    };
-    let row = stroke.arrow.to.row;
-    write!(
-        to,
-        "<path class=\"arrow {class}\" data-line=\"{row}\" marker-end=\"url(#tip)\" d=\""
-    )?;
-    put_path(to, plan, stroke)?;
-    to.push_str("\"><title>")?;
-    let mut name = String::new(*to.allocator());
-    put_full_name(&mut name, names, stroke.arrow.from.thread)?;
-    name.push_str(" to ")?;
-    put_full_name(&mut name, names, stroke.arrow.to.thread)?;
-    name.push_str(": ")?;
-    name.push_str(stroke.label.as_str())?;
-    put_escaped(to, name.as_str())?;
-    to.push_str("</title></path>\n")
+    }
 }
 
-/// Adds the label of an arrow that stays in its row, above it.
-fn put_label(to: &mut String, plan: &Plan, stroke: &Stroke) -> Result<(), AllocError> {
+/// Puts an arrow, over which a pointer shows its label.
+fn put_stroke<N: Names>(words: &mut Words, to: &mut Page, names: &N, plan: &Plan, stroke: &Stroke) {
+    to.put(b"<path class=\"arrow ");
+    to.put(class_of(stroke.arrow.shown).as_bytes());
+    put_attribute(to, b"\" data-line=\"", stroke.arrow.to.row as u64);
+    to.put(b" marker-end=\"url(#tip)\" d=\"");
+    put_path(to, plan, stroke);
+    to.put(b"\"><title>");
+    put_hint(&mut words.page, names, stroke);
+    match words.take() {
+        Ok(hint) => put_escaped(to, hint.as_str()),
+        Err(_) => to.cut(),
+    }
+    to.put(b"</title></path>\n");
+}
+
+/// Puts the label of an arrow that stays in its row, above it.
+fn put_label(to: &mut Page, plan: &Plan, stroke: &Stroke) {
     if !stroke.is_straight() {
-        return Ok(());
+        return;
     }
     let gap = gap_of(&stroke.arrow);
     let left = lane_at(plan, gap);
@@ -184,88 +227,60 @@ fn put_label(to: &mut String, plan: &Plan, stroke: &Stroke) -> Result<(), AllocE
         Some(x) => *x,
         None => plan.width,
     };
+    let x = left.saturating_add(right) / 2;
     let y = slot_top(plan, stroke.row, stroke.slot).saturating_add(LABEL_AT);
-    put_text(
-        to,
-        "label",
-        left.saturating_add(right) / 2,
-        y,
-        stroke.label.as_str(),
-    )
+    put_text(to, "label", x, y, stroke.label.as_str());
 }
 
-/// Adds what was sent to nobody, in grey.
-fn put_lost(to: &mut String, plan: &Plan, note: &Note) -> Result<(), AllocError> {
-    let (x, top) = (
-        lane_at(plan, note.lane),
-        slot_top(plan, note.row, note.slot),
-    );
-    let mut data = String::new(*to.allocator());
-    if let Some(row) = plan.rows.get(note.row) {
-        let number = row.number;
-        write!(data, " data-line=\"{number}\"")?;
-    }
-    put_lost_line(
-        to,
-        data.as_str(),
-        x.saturating_add(EDGE),
-        top.saturating_add(LOST_AT),
-    )?;
-    put_text(
-        to,
-        "lost",
+/// Puts what was sent to nobody, in grey.
+fn put_lost(to: &mut Page, plan: &Plan, note: &Note) {
+    let x = lane_at(plan, note.lane);
+    let top = slot_top(plan, note.row, note.slot);
+    let number = plan.rows.get(note.row).map(|row| row.number);
+    let (end, line) = (x.saturating_add(EDGE), top.saturating_add(LOST_AT));
+    put_lost_line(to, number, end, line);
+    let (x, y) = (
         x.saturating_add(CLEAR + LOST_TEXT),
         top.saturating_add(TEXT_AT),
-        note.text.as_str(),
-    )
+    );
+    put_text(to, "lost", x, y, note.text.as_str());
 }
 
-/// Adds what is written beside the lanes.
-fn put_notes(to: &mut String, plan: &Plan) -> Result<(), AllocError> {
+/// Puts what is written beside a lane.
+fn put_note(to: &mut Page, plan: &Plan, note: &Note) {
+    let y = slot_top(plan, note.row, note.slot).saturating_add(TEXT_AT);
+    let x = lane_at(plan, note.lane).saturating_add(CLEAR);
+    match note.kind {
+        NoteKind::Lost => put_lost(to, plan, note),
+        NoteKind::Mark => put_text(to, "mark", x, y, note.text.as_str()),
+        NoteKind::Label | NoteKind::State => put_text(to, "note", x, y, note.text.as_str()),
+    }
+}
+
+/// Puts the arrows without their labels, and the dots over them.
+fn put_arrows<N: Names>(words: &mut Words, to: &mut Page, names: &N, plan: &Plan) {
+    for stroke in plan.strokes.iter() {
+        put_stroke(words, to, names, plan, stroke);
+    }
+    for row in plan.rows.iter() {
+        put_dot(to, plan, row);
+    }
+}
+
+/// Puts everything of the page that is beside its lanes, but what is below them.
+fn put_all<N: Names>(words: &mut Words, to: &mut Page, names: &N, drawing: &Drawing, plan: &Plan) {
+    for row in plan.rows.iter() {
+        put_margin(to, plan, row);
+    }
+    put_bars(words, to, names, drawing, plan);
+    put_arrows(words, to, names, plan);
+    for stroke in plan.strokes.iter() {
+        put_label(to, plan, stroke);
+    }
     for note in plan.notes.iter() {
-        let y = slot_top(plan, note.row, note.slot).saturating_add(TEXT_AT);
-        let x = lane_at(plan, note.lane).saturating_add(CLEAR);
-        match note.kind {
-            NoteKind::Lost => put_lost(to, plan, note)?,
-            NoteKind::Mark => put_text(to, "mark", x, y, note.text.as_str())?,
-            NoteKind::Label | NoteKind::State => { put_text(to, "note", x, y, note.text.as_str())? }
-        }
+        put_note(to, plan, note);
     }
-    Ok(())
-}
-
-/// Adds everything of the page but its first and its last line.
-fn put_all<N: Names>(
-    alloc: Global,
-    to: &mut String,
-    names: &N,
-    drawing: &Drawing,
-    plan: &Plan,
-) -> Result<(), AllocError> {
-    for row in plan.rows.iter() {
-        put_margin(to, plan, row)?;
-    }
-    put_bars(alloc, to, names, drawing, plan)?;
-    for stroke in plan.strokes.iter() {
-        put_stroke(to, names, plan, stroke)?;
-    }
-    for row in plan.rows.iter() {
-        put_dot(to, plan, row)?;
-    }
-    for stroke in plan.strokes.iter() {
-        put_label(to, plan, stroke)?;
-    }
-    put_notes(to, plan)?;
-    put_heads(to, plan)
-}
-
-/// Adds a number of things, and what one of them is called.
-fn put_count(to: &mut String, count: usize, what: &str) -> Result<(), AllocError> {
-    write!(to, "{count} {what}")?;
-    if count == 1 {
-        return Ok(());
-    }
-    to.push_str("s")
+    put_heads(to, plan);
 }
 
 /// Returns how many lines of the book a page shows.
@@ -312,27 +327,46 @@ fn counts_of(plan: &Plan) -> Counts {
     counts
 }
 
-/// Adds what is read aloud of the picture: its title, and how much it shows.
-fn put_title(
-    to: &mut String,
+/// Puts what is read aloud of the picture: its title, and how much it shows.
+fn put_title(to: &mut Page, drawing: &Drawing, plan: &Plan, title: &str) {
+    to.put(b"<title>");
+    put_escaped(to, title);
+    to.put(b"</title>\n<desc>");
+    let counts = counts_of(plan);
+    to.counted(drawing.threads(), "thread");
+    to.put(b", ");
+    to.counted(lines_in(plan), "line");
+    to.put(b", ");
+    to.counted(counts.messages, "message");
+    to.put(b", ");
+    to.counted(counts.answers, "answer");
+    to.put(b", ");
+    to.counted(counts.words, "signal");
+    to.put(b"</desc>\n");
+}
+
+/// Puts the first line of the page.
+fn put_size(to: &mut Page, width: u64, height: u64) {
+    to.put(b"<svg xmlns=\"http://www.w3.org/2000/svg\" role=\"img\"");
+    put_attribute(to, b" width=\"", width);
+    put_attribute(to, b" height=\"", height);
+    put_far(to, b" viewBox=\"0 0 ", width);
+    put_attribute(to, b" ", height);
+    to.put(b">\n");
+}
+
+/// Puts the lanes and what is below them, and gives the height of the page.
+fn put_body<N: Names>(
+    words: &mut Words,
+    to: &mut Page,
+    names: &N,
     drawing: &Drawing,
     plan: &Plan,
-    title: &str,
-) -> Result<(), AllocError> {
-    to.push_str("<title>")?;
-    put_escaped(to, title)?;
-    to.push_str("</title>\n<desc>")?;
-    let counts = counts_of(plan);
-    put_count(to, drawing.threads(), "thread")?;
-    to.push_str(", ")?;
-    put_count(to, lines_in(plan), "line")?;
-    to.push_str(", ")?;
-    put_count(to, counts.messages, "message")?;
-    to.push_str(", ")?;
-    put_count(to, counts.answers, "answer")?;
-    to.push_str(", ")?;
-    put_count(to, counts.words, "signal")?;
-    to.push_str("</desc>\n")
+    window: Window,
+) -> u64 {
+    put_all(words, to, names, drawing, plan);
+    let below = put_end(words, to, names, drawing, plan, window);
+    put_legend(words, to, names, drawing, plan, below).saturating_add(20)
 }
 
 /// Returns the picture of a window of a drawing, as SVG with this title.
@@ -345,20 +379,15 @@ pub fn svg_of<N: Names>(
 ) -> Result<String, AllocError> {
     let window = drawing.shown(window);
     let plan = plan_of(alloc, drawing, names, window)?;
-    let mut body = String::new(alloc);
-    put_all(alloc, &mut body, names, drawing, &plan)?;
-    let below = put_end(alloc, &mut body, names, drawing, &plan, window)?;
-    let below = put_legend(alloc, &mut body, names, drawing, &plan, below)?;
-    let (width, height) = (plan.width.max(560), below.saturating_add(20));
-    let mut page = String::new(alloc);
-    write!(
-        page,
-        "<svg xmlns=\"http://www.w3.org/2000/svg\" role=\"img\" width=\"{width}\" height=\"{height}\" viewBox=\"0 0 {width} {height}\">\n"
-    )?;
-    put_title(&mut page, drawing, &plan, title)?;
-    page.push_str(STYLE)?;
-    page.push_str("<rect class=\"ground\" width=\"100%\" height=\"100%\"/>\n")?;
-    page.push_str(body.as_str())?;
-    page.push_str("</svg>\n")?;
-    Ok(page)
+    let mut words = Words::new(alloc)?;
+    let mut page = Page::new(alloc)?;
+    let height = put_body(&mut words, &mut page, names, drawing, &plan, window);
+    let body = take_text(alloc, &mut page)?;
+    put_size(&mut page, plan.width.max(560), height);
+    put_title(&mut page, drawing, &plan, title);
+    page.put(STYLE.as_bytes());
+    page.put(b"<rect class=\"ground\" width=\"100%\" height=\"100%\"/>\n");
+    page.put(body.as_bytes());
+    page.put(b"</svg>\n");
+    take_text(alloc, &mut page)
 }

@@ -1,5 +1,6 @@
 //! The title of a picture, as its script says it.
-use crate::texts::cut;
+use crate::texts::{cut, take_text};
+use mcs_lab_inspect::Page;
 use mcs_text::Lines;
 use std::alloc::{AllocError, Global};
 use std::str;
@@ -19,42 +20,39 @@ fn comment_of(line: &[u8]) -> Option<&str> {
     if words.is_empty() { None } else { Some(words) }
 }
 
-/// Adds a line of a comment up to the end of its first sentence. True where that is in it.
-fn put_sentence(to: &mut String, words: &str) -> Result<bool, AllocError> {
-    if !to.is_empty() {
-        to.push(' ')?;
-    }
+/// Puts a line of a comment up to the end of its first sentence. True where that is in it.
+fn put_sentence(to: &mut Page, words: &str) -> bool {
     if let Some((sentence, _)) = words.split_once(". ") {
-        to.push_str(sentence)?;
-        return Ok(true);
+        to.put(sentence.as_bytes());
+        return true;
     }
-    to.push_str(words.trim_end_matches("."))?;
-    Ok(words.ends_with("."))
+    to.put(words.trim_end_matches(".").as_bytes());
+    words.ends_with(".")
 }
 
-/// Returns the first sentence of the first comment, without its full stop; nothing where there is
-/// no comment.
-fn first_sentence(alloc: Global, text: &[u8]) -> Result<String, AllocError> {
-    let mut title = String::new(alloc);
+/// Puts the first sentence of the first comment, without its full stop; nothing where there is no
+/// comment.
+fn put_first_sentence(to: &mut Page, text: &[u8]) {
+    let mut has_begun = false;
     let mut lines = Lines::new(text);
     for _ in 0..=text.len() {
         let Some(line) = lines.next_line() else {
-            break;
+            return;
         };
         match comment_of(line) {
             Some(words) => {
-                if put_sentence(&mut title, words)? {
-                    break;
+                if has_begun {
+                    to.put(b" ");
                 }
-            }
-            None => {
-                if !title.is_empty() {
-                    break;
+                if put_sentence(to, words) {
+                    return;
                 }
+                has_begun = true;
             }
+            None if has_begun => return,
+            None => {}
         }
     }
-    Ok(title)
 }
 
 /// Returns whether a text has lines that say what a step answered, as traces have.
@@ -70,16 +68,25 @@ fn is_trace(text: &[u8]) -> bool {
     false
 }
 
+/// Says what kind of file a script is.
+fn kind_of(text: &[u8]) -> &'static str {
+    if is_trace(text) {
+        "A trace of mcssim"
+    } else {
+        "A script of steps"
+    }
+}
+
 /// Returns the title of a script: the first sentence of its first comment, or what kind of file it
 /// is.
 pub fn title_of(alloc: Global, text: &[u8]) -> Result<String, AllocError> {
-    let mut title = first_sentence(alloc, text)?;
-    if title.is_empty() {
-        title.push_str(if is_trace(text) {
-            "A trace of mcssim"
-        } else {
-            "A script of steps"
-        })?;
-    }
-    cut(alloc, title.as_str(), TITLE_COLUMNS)
+    let mut page = Page::new(alloc)?;
+    put_first_sentence(&mut page, text);
+    let said = take_text(alloc, &mut page)?;
+    let title = if said.is_empty() {
+        kind_of(text)
+    } else {
+        said.as_str()
+    };
+    cut(alloc, title, TITLE_COLUMNS)
 }
