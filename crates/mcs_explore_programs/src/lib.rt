@@ -29,4 +29,4 @@ mod values;
 pub use code::ProgramEntry;
 pub use fault::{FaultyLine, ProgramFault};
 pub use naming::{Listed, Word};
-pub use program::{Label, Program, ProgramLines};
+pub use program::{DEPTH, Label, Program, ProgramLines};

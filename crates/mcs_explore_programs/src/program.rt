@@ -19,8 +19,8 @@ use std::alloc::{AllocError, Global};
 /// How many lines a program has at most.
 const LINES: usize = 4096;
 
-/// How deep blocks are at most.
-const DEPTH: usize = 32;
+/// How many blocks of a program may be open at a time (own).
+pub const DEPTH: usize = 32;
 
 /// The name of an entry of a thread, or of a block, and the numbers of its first and its last
 /// entry, from 1 on.

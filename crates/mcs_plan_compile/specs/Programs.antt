@@ -2,13 +2,13 @@
 use Rattle.std.specs.Prelude.{◌+◌, ◌-◌, ◌&&◌, ◌==◌, ℕ, Bool, false, cond, List, [], ◌∷◌, Some, None, Ok, Err, codes, bytes_eq, drop, is_some, length, map, nat_lt, slice_get}
 use Rattle.mcs_types.specs.declared.id.ObjId.{ObjId}
 use Rattle.mcs_types.specs.declared.id.Kind.TheVariants as kind
+use Rattle.mcs_explore_programs.specs.declared.program.TheConstants.{DEPTH}
 use Rattle.mcs_plan_source.specs.Objects.{named_as}
 use Rattle.mcs_plan_source.specs.Refusals.{Read, ◌>>=◌, ◌>>◌, limit, need, unclosed}
 use Rattle.mcs_plan_source.specs.Words.{behind, end_of, word_then}
 use Rattle.mcs_plan_layout.specs.Laid.{LaidPlan}
 use Rattle.mcs_plan_compile.specs.declared.compiling.Entries.{Entries}
 use Rattle.mcs_plan_compile.specs.declared.compiling.Entries.TheVariants as entries
-use Rattle.mcs_plan_compile.specs.declared.programs.TheConstants.{DEPTH}
 use Rattle.mcs_plan_compile.specs.Fields.{fields_of}
 use Rattle.mcs_plan_compile.specs.Heads.{step_read}
 use Rattle.mcs_plan_compile.specs.Mixing.{goes_on}

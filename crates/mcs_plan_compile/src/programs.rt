@@ -10,14 +10,11 @@ ghost use Rattle.mcs_plan_compile.specs.Programs.{behind_name, closes, ends_with
 use crate::fields::fields_of;
 use crate::lines::LINE_BYTES;
 use crate::steps::{Head, thread_named, write_entry};
-use mcs_explore_programs::ProgramFault;
+use mcs_explore_programs::{DEPTH, ProgramFault};
 use mcs_plan_layout::Laid;
 use mcs_plan_source::{Why, Words, add_word, split_words};
 use mcs_types::ObjId;
 use std::alloc::{AllocError, Global};
-
-/// How many blocks of a program may be open at a time (own).
-const DEPTH: usize = 32;
 
 /// Whether a word is the name of what follows it.
 fn ends_with_colon(word: &[u8]) -> bool
