@@ -1,0 +1,79 @@
+//! The words of a statement, taken one by one.
+use mcs_plan_source::{Why, not, number};
+use std::alloc::Global;
+
+/// The words of a statement, of which some were taken.
+#[derive(Drop)]
+pub struct Cursor<'a> {
+    alloc: Global,
+    words: &'a [&'a str],
+    taken: usize,
+}
+
+impl<'a> Cursor<'a> {
+    /// Returns all words behind the first ones, so many.
+    pub fn new(alloc: Global, words: &'a [&'a str], taken: usize) -> Cursor<'a> {
+        Cursor {
+            alloc,
+            words,
+            taken,
+        }
+    }
+
+    /// Returns the next word, which is left.
+    pub fn peek(&self) -> Option<&'a str> {
+        self.words.get(self.taken).copied()
+    }
+
+    /// Returns the words that are left.
+    pub fn rest(&self) -> &'a [&'a str] {
+        self.words.get(self.taken..).unwrap_or(&[])
+    }
+
+    /// Takes a word. Missing where none is left.
+    pub fn need(&mut self, wanted: &'static str) -> Result<&'a str, Why> {
+        let Some(word) = self.peek() else {
+            return Err(Why::Missing { wanted });
+        };
+        self.taken = self.taken.saturating_add(1);
+        Ok(word)
+    }
+
+    /// Takes this word, if it is the next, and returns whether it was.
+    pub fn takes(&mut self, wanted: &str) -> bool {
+        let is_next = self.peek().is_some_and(|word| word == wanted);
+        if is_next {
+            self.taken = self.taken.saturating_add(1);
+        }
+        is_next
+    }
+
+    /// Takes this word. Missing where none is left, Not for another.
+    pub fn expect(&mut self, wanted: &'static str) -> Result<(), Why> {
+        let word = self.need(wanted)?;
+        if word == wanted {
+            Ok(())
+        } else {
+            Err(not(self.alloc, word, wanted))
+        }
+    }
+
+    /// Takes a number up to a limit. Missing where no word is left, Not where it is none.
+    pub fn number(&mut self, wanted: &'static str, limit: u64) -> Result<u64, Why> {
+        let word = self.need(wanted)?;
+        match number(word) {
+            Some(n) if n <= limit => Ok(n),
+            _ => Err(not(self.alloc, word, wanted)),
+        }
+    }
+
+    /// Fails with TooMany where a word is left.
+    pub fn end(&self) -> Result<(), Why> {
+        match self.peek() {
+            None => Ok(()),
+            Some(word) => Err(Why::TooMany {
+                word: String::from_str(self.alloc, word)?,
+            }),
+        }
+    }
+}

@@ -1,0 +1,96 @@
+//! The statements of lines: `{` ends one, `}` begins one, and so does what follows `;`.
+use std::alloc::{AllocError, Global};
+use std::mem;
+
+/// A statement: its words, and the line of the plan.
+#[derive(Drop)]
+pub struct Statement<'a> {
+    pub words: Vec<&'a str>,
+    pub line: u64,
+}
+
+impl<'a> Statement<'a> {
+    /// Returns the first word; an empty one where there is none.
+    pub fn first(&self) -> &'a str {
+        self.words.first().copied().unwrap_or("")
+    }
+
+    /// Returns whether it opens a block.
+    pub fn opens(&self) -> bool {
+        self.words.last().is_some_and(|word| *word == "{")
+    }
+
+    /// Returns whether it closes a block.
+    pub fn closes(&self) -> bool {
+        self.first() == "}"
+    }
+}
+
+/// The statements of a line so far, and the words of the next.
+#[derive(Drop)]
+struct Splitter<'a> {
+    alloc: Global,
+    line: u64,
+    done: Vec<Statement<'a>>,
+    words: Vec<&'a str>,
+}
+
+impl<'a> Splitter<'a> {
+    /// Ends the statement, if it has words.
+    fn end(&mut self) -> Result<(), AllocError> {
+        if self.words.is_empty() {
+            return Ok(());
+        }
+        let words = mem::replace(&mut self.words, Vec::new(self.alloc));
+        let line = self.line;
+        self.done.push(Statement { words, line })?;
+        Ok(())
+    }
+
+    /// Returns whether the statement is `}` so far, which only `else` continues.
+    fn is_closed(&self) -> bool {
+        self.words.first().is_some_and(|word| *word == "}") && self.words.len() == 1
+    }
+
+    /// Takes a word without a semicolon.
+    fn take(&mut self, word: &'a str) -> Result<(), AllocError> {
+        if word == "}" || (self.is_closed() && word != "else") {
+            self.end()?;
+        }
+        self.words.push(word)?;
+        if word == "{" {
+            self.end()?;
+        }
+        Ok(())
+    }
+
+    /// Takes a word, behind which a semicolon may end the statement.
+    fn take_word(&mut self, word: &'a str) -> Result<(), AllocError> {
+        let Some(front) = word.strip_suffix(";") else {
+            return self.take(word);
+        };
+        if !front.is_empty() {
+            self.take(front)?;
+        }
+        self.end()
+    }
+}
+
+/// Returns the statements that the words of a line are.
+pub fn statements_of<'a>(
+    alloc: Global,
+    line: u64,
+    words: &[&'a str],
+) -> Result<Vec<Statement<'a>>, AllocError> {
+    let mut splitter = Splitter {
+        alloc,
+        line,
+        done: Vec::new(alloc),
+        words: Vec::new(alloc),
+    };
+    for word in words {
+        splitter.take_word(word)?;
+    }
+    splitter.end()?;
+    Ok(splitter.done)
+}
