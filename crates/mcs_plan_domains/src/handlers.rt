@@ -318,7 +318,7 @@ impl<'s, 'a> Lowerer<'s, 'a> {
         Ok(())
     }
 
-    /// Puts `reply LABEL WORDS`, which leaves the handler: it is the answer, and the domain receives.
+    /// Puts `reply LABEL WORDS`, which leaves the handler: the domain answers and receives.
     fn put_answer(
         &mut self,
         out: &mut Lowered,
