@@ -34,9 +34,11 @@ printf 'cores 1\nendpiont\n' >"$work/refused.mcs"
 ends 0 '' check tests/lab/trace.mcs
 ends 1 '' check "$work/unmet.mcs"
 ends 1 '' state --stuck $script
-ends 2 'mcslab: line 2: fault 2: no form fits' check "$work/refused.mcs"
+ends 2 "$work/refused.mcs:2: fault 2: no form fits" check "$work/refused.mcs"
 bails 'line 2: no form fits'
-ends 2 'mcslab: line 2: no question' check tests/lab/no-question.mcs
+ends 2 'tests/lab/no-question.mcs:2: no question' check tests/lab/no-question.mcs
+ends 2 'mcslab: line 2: fault 2: no form fits' check <"$work/refused.mcs"
+ends 2 'mcslab: line 2: fault 2: no form fits' check - <"$work/refused.mcs"
 for command in check why state json draw explore walk compile; do
     ends 8 'read fault' $command <"$work"
 done
@@ -47,7 +49,7 @@ status=0
 [ $status -eq 4 ] && grep -q 'write fault' "$work/told" || { echo "statuses.sh: no write fault, but status $status"; exit 1; }
 ends 3 '' explore --states 2 examples/explore/mutex.mcs
 ends 0 '' walk --seed 7 --turns 5 examples/explore/mutex.mcs
-ends 2 'mcslab: line 2: fault 2: no form fits' walk "$work/refused.mcs"
+ends 2 "$work/refused.mcs:2: fault 2: no form fits" walk "$work/refused.mcs"
 ends 64 '-1' walk --seed=-1 examples/explore/mutex.mcs
 for command in check why state json draw explore walk compile names; do
     ends 64 'No such file' $command "$work/none" </dev/null
@@ -66,9 +68,23 @@ ends 0 '' state --at 34 $script
 ends 64 '0' draw --from 0 $script
 ends 64 '0' draw --to 0 $script
 ends 64 'mcslab: --from 3 is behind --to 2' draw --from 3 --to 2 $script
-ends 64 'there is no line 99 in the book, which has 6' draw --from 99 $script
-ends 64 'there is no line 99 in the book, which has 6' draw --to 99 $script
-ends 0 '' draw --from 6 --to 6 $script
+ends 64 'there is no line 99 in the script, which has 34' draw --from 99 $script
+ends 64 'there is no line 99 in the script, which has 34' draw --to 99 $script
+ends 64 'mcslab: no step in these lines took effect' draw --from 1 --to 2 $script
+ends 0 '' draw --from 24 --to 24 $script
+ends 64 'mcslab: no step in these lines took effect' draw --from 31 --to 34 $script
+for command in check why state json draw; do
+    ends 8 'read fault' $command --plan <"$work"
+    ends 64 'No such file' $command "$work/none.plan" </dev/null
+    ends 64 'Is a directory' $command --plan "$work" </dev/null
+done
+plan=examples/gallery/passive-server.plan
+count=$(wc -l <"$plan")
+ends 0 '' check $plan
+ends 0 '' check --plan <$plan
+ends 0 '' state --at "$count" $plan
+ends 64 "there is no line $((count + 1)) in the plan, which has $count" state --at $((count + 1)) $plan
+ends 64 "there is no line $((count + 1)) in the plan, which has $count" draw --to $((count + 1)) $plan
 echo "statuses: $tried calls end as wanted"
 
 # A verdict is there while the rest of the script is not written yet.

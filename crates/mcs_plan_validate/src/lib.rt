@@ -8,10 +8,14 @@
 //! ```
 #![tactic(auto)]
 
+mod aligned;
 mod compiled;
 mod fault;
 mod leading;
+mod origins;
 mod reading;
 
+pub use aligned::{Numbered, align_questions};
 pub use compiled::{Compiled, compile_text};
 pub use fault::CompileFault;
+pub use origins::origins_of;

@@ -2,6 +2,7 @@
 use crate::compiling::{self, Made};
 use crate::drawing::{self, Drawn};
 use crate::exploring::{self, Sought};
+use crate::starting::{self, Begun};
 use crate::walking::{self, Chance};
 use clap::builder::ValueParser;
 use clap::{Arg, ArgAction, ArgMatches, Command as Words, Error};
@@ -33,13 +34,46 @@ pub enum Command<'a> {
     Compile(Made),
     /// Puts names into a trace.
     Names,
+    /// Writes the first plans of a new user.
+    Init(Begun<'a>),
 }
 
-/// A command and the file of its script; None for the standard input.
+/// A command, and the file that it reads; None for the standard input.
 #[derive(Drop)]
 pub struct Request<'a> {
     pub command: Command<'a>,
     pub file: Option<&'a str>,
+    /// Whether that is a plan, by its name or by an option.
+    pub is_plan: bool,
+}
+
+/// Returns the file that is named; None for the standard input, which `-` names, too.
+fn file_of<'a>(found: &ArgMatches<'a>) -> Option<&'a str> {
+    match found.get_str("FILE") {
+        Some("-") | None => None,
+        Some(file) => Some(file),
+    }
+}
+
+impl<'a> Request<'a> {
+    /// Returns the request of a command that has its own kind of file.
+    fn plain(command: Command<'a>, found: &ArgMatches<'a>) -> Request<'a> {
+        Request {
+            command,
+            file: file_of(found),
+            is_plan: false,
+        }
+    }
+
+    /// Returns the request of a command that reads a script or a plan.
+    fn of_either(command: Command<'a>, found: &ArgMatches<'a>) -> Request<'a> {
+        let file = file_of(found);
+        Request {
+            command,
+            file,
+            is_plan: found.get_flag("plan") || file.is_some_and(|file| file.ends_with(".plan")),
+        }
+    }
 }
 
 /// How a script says what is wanted, and the exit statuses of `Outcome`.
@@ -56,6 +90,10 @@ Lines behind a step say what is wanted of it:
      r1 owes t1 | r1 with t2 | n1 pending 5
      e1.recv t2 t4 | c1 3 holds e1 rw 9         (`-` for nothing)
   #@ t1 client         a name for an object: letters, digits, `-`, `_` and `.`
+A plan says the same by `? ANSWER` and `? QUESTION`, with its names.
+
+Each command but `names` and `init` reads a plan as well: a file NAME.plan, or any with --plan. The numbers of
+lines are those of the file that is given. A fault is told as FILE:LINE: .., and `-` is the standard input.
 
 `mcslab COMMAND --help` shows the options of a command, and `mcslab json --help` the forms of all lines.
 
@@ -71,9 +109,17 @@ Exit status:
    8  a read failed
   64  the command line: an option, a file that cannot be opened, or a line that is not there";
 
-/// The file of a script.
+/// The file of a script or a plan.
 fn file<'a>(alloc: Global) -> Arg<'a> {
-    Arg::new(alloc, "FILE").help("The script [default: standard input]")
+    Arg::new(alloc, "FILE").help("The script, or the plan NAME.plan [default: standard input]")
+}
+
+/// The option for a plan.
+fn as_plan<'a>(alloc: Global) -> Arg<'a> {
+    Arg::new(alloc, "plan")
+        .long("plan")
+        .help("Reads a plan, whatever the file's name is")
+        .action(ArgAction::SetTrue)
 }
 
 /// The file of a plan.
@@ -95,7 +141,7 @@ fn at<'a>(alloc: Global) -> Arg<'a> {
     line(
         alloc,
         "at",
-        "Behind which line of the script [default: its end]",
+        "Behind which line of the file [default: its end]",
     )
 }
 
@@ -138,7 +184,9 @@ fn over<'a>(
 /// The command that compares what is wanted.
 fn check<'a>(alloc: Global) -> Result<Words<'a>, Error> {
     let words = Words::new(alloc, "check")
-        .about("Compares what a script says of its steps with what they do, and writes TAP")
+        .about(
+            "Compares what a script or a plan says of its steps with what they do, and writes TAP",
+        )
         .after_help(QUESTIONS);
     with(Ok(words), file(alloc))
 }
@@ -174,37 +222,85 @@ fn book<'a>(alloc: Global) -> Result<Words<'a>, Error> {
 fn program<'a>(alloc: Global) -> Words<'a> {
     Words::new(alloc, "mcslab")
         .version(VERSION)
-        .about("Tests scripts of mcssim, and says why a step did nothing and who stands where")
+        .about("Tests, draws and explores protocols of seL4, as scripts of mcssim or as plans")
         .after_help(QUESTIONS)
         .subcommand_required(true)
 }
 
-/// The program's commands.
-fn commands<'a>(alloc: Global) -> Result<Words<'a>, Error> {
-    let words = over(Ok(program(alloc)), check(alloc));
-    let words = over(words, why(alloc));
-    let words = over(words, state(alloc));
-    let words = over(words, book(alloc));
-    let words = over(words, drawing::command(alloc, file(alloc)));
-    let words = over(words, exploring::command(alloc, file(alloc)));
-    let words = over(words, walking::command(alloc, file(alloc)));
-    let words = over(words, compiling::command(alloc, plan(alloc)));
-    over(words, compiling::names_command(alloc))
+/// A command that reads a script or a plan.
+fn either<'a>(
+    alloc: Global,
+    words: Result<Words<'a>, Error>,
+    below: Result<Words<'a>, Error>,
+) -> Result<Words<'a>, Error> {
+    over(words, with(below, as_plan(alloc)))
 }
 
-/// What is asked of a plan or of the names of a script, if something is.
+/// The program with the commands that read a script or a plan.
+fn readers<'a>(alloc: Global) -> Result<Words<'a>, Error> {
+    let words = either(alloc, Ok(program(alloc)), check(alloc));
+    let words = either(alloc, words, why(alloc));
+    let words = either(alloc, words, state(alloc));
+    let words = either(alloc, words, book(alloc));
+    let words = either(alloc, words, drawing::command(alloc, file(alloc)));
+    let words = either(alloc, words, exploring::command(alloc, file(alloc)));
+    either(alloc, words, walking::command(alloc, file(alloc)))
+}
+
+/// The program's commands.
+fn commands<'a>(alloc: Global) -> Result<Words<'a>, Error> {
+    let words = over(readers(alloc), compiling::command(alloc, plan(alloc)));
+    let words = over(words, compiling::names_command(alloc));
+    over(words, starting::command(alloc))
+}
+
+/// What is asked of a plan or of the names of a script, or whether plans are to be written.
 fn requested_of_names<'a>(matches: &ArgMatches<'a>) -> Option<Request<'a>> {
     if let Some(found) = matches.subcommand_matches("compile") {
+        return Some(Request::plain(Command::Compile(compiling::asked(found)), found));
+    }
+    if let Some(found) = matches.subcommand_matches("init") {
         return Some(Request {
-            command: Command::Compile(compiling::asked(found)),
-            file: found.get_str("FILE"),
+            command: Command::Init(starting::asked(found)),
+            file: None,
+            is_plan: false,
         });
     }
     let found = matches.subcommand_matches("names")?;
-    Some(Request {
-        command: Command::Names,
-        file: found.get_str("FILE"),
-    })
+    Some(Request::plain(Command::Names, found))
+}
+
+/// What is asked of the orders of users, if something is.
+fn requested_of_users<'a>(matches: &ArgMatches<'a>) -> Option<Request<'a>> {
+    if let Some(found) = matches.subcommand_matches("explore") {
+        return Some(Request::of_either(Command::Explore(exploring::asked(found)), found));
+    }
+    let found = matches.subcommand_matches("walk")?;
+    Some(Request::of_either(Command::Walk(walking::asked(found)), found))
+}
+
+/// What is asked of steps, if something is.
+fn requested_of_steps<'a>(matches: &ArgMatches<'a>) -> Option<Request<'a>> {
+    if let Some(found) = matches.subcommand_matches("why") {
+        return Some(Request::of_either(Command::Why, found));
+    }
+    if let Some(found) = matches.subcommand_matches("json") {
+        return Some(Request::of_either(Command::Json, found));
+    }
+    if let Some(found) = matches.subcommand_matches("draw") {
+        let drawn = drawing::asked(found)?;
+        return Some(Request::of_either(Command::Draw(drawn), found));
+    }
+    if let Some(found) = matches.subcommand_matches("state") {
+        let wanted = Wanted {
+            at: found.get_one("at"),
+            stuck: found.get_flag("stuck"),
+            json: found.get_flag("json"),
+        };
+        return Some(Request::of_either(Command::State(wanted), found));
+    }
+    let found = matches.subcommand_matches("check")?;
+    Some(Request::of_either(Command::Check, found))
 }
 
 /// What the words of the command line ask for; the first is the program's name.
@@ -213,55 +309,16 @@ pub fn requested<'a>(alloc: Global, words: &'a [&'a str]) -> Result<Request<'a>,
     if let Some(request) = requested_of_names(&matches) {
         return Ok(request);
     }
-    if let Some(found) = matches.subcommand_matches("why") {
-        return Ok(Request {
-            command: Command::Why,
-            file: found.get_str("FILE"),
-        });
+    if let Some(request) = requested_of_users(&matches) {
+        return Ok(request);
     }
-    if let Some(found) = matches.subcommand_matches("json") {
-        return Ok(Request {
-            command: Command::Json,
-            file: found.get_str("FILE"),
-        });
+    if let Some(request) = requested_of_steps(&matches) {
+        return Ok(request);
     }
-    if let Some(found) = matches.subcommand_matches("draw") {
-        if let Some(drawn) = drawing::asked(found) {
-            return Ok(Request {
-                command: Command::Draw(drawn),
-                file: found.get_str("FILE"),
-            });
-        }
-    }
-    if let Some(found) = matches.subcommand_matches("explore") {
-        return Ok(Request {
-            command: Command::Explore(exploring::asked(found)),
-            file: found.get_str("FILE"),
-        });
-    }
-    if let Some(found) = matches.subcommand_matches("walk") {
-        return Ok(Request {
-            command: Command::Walk(walking::asked(found)),
-            file: found.get_str("FILE"),
-        });
-    }
-    if let Some(found) = matches.subcommand_matches("state") {
-        let wanted = Wanted {
-            at: found.get_one("at"),
-            stuck: found.get_flag("stuck"),
-            json: found.get_flag("json"),
-        };
-        return Ok(Request {
-            command: Command::State(wanted),
-            file: found.get_str("FILE"),
-        });
-    }
-    let file = match matches.subcommand_matches("check") {
-        Some(found) => found.get_str("FILE"),
-        None => None,
-    };
+    // the command line has one of these commands
     Ok(Request {
         command: Command::Check,
-        file,
+        file: None,
+        is_plan: false,
     })
 }

@@ -1,13 +1,15 @@
 //! Plans and names, as the command line asks for them.
 use crate::command_line::with;
+use crate::input::read_bytes;
+use crate::loading::load;
+use crate::telling::tell_plan_fault;
 use clap::{Arg, ArgAction, ArgMatches, Command as Words, Error};
-use mcs_lab_check::{LabFault, Outcome};
+use mcs_lab_check::LabFault;
 use mcs_plan_compile::write_map;
 use mcs_plan_source::tell_names;
-use mcs_plan_validate::{CompileFault, Compiled, compile_text};
+use mcs_plan_validate::{CompileFault, Compiled};
 use std::alloc::Global;
-use std::fs;
-use std::io::{self, ErrorKind, Read, Write};
+use std::io::{self, Write};
 use std::process::ExitCode;
 
 /// What is made of a plan.
@@ -62,47 +64,6 @@ pub fn asked(found: &ArgMatches<'_>) -> Made {
     }
 }
 
-/// All bytes of the standard input.
-fn read_input(rt: &HostRuntime) -> io::Result<Vec<u8>> {
-    let mut bytes = Vec::new(rt.alloc());
-    rt.reader().read_to_end(&mut bytes)?;
-    Ok(bytes)
-}
-
-/// Reports that the standard input could not be read, and returns the exit status.
-fn tell_unread(rt: &HostRuntime, error: &io::Error) -> u8 {
-    let fault = match error.kind() {
-        ErrorKind::OutOfMemory => LabFault::OutOfMemory,
-        _ => LabFault::Read,
-    };
-    let _ = rt.eprintln(fault);
-    fault.status()
-}
-
-/// Reports that a file could not be read, and returns the exit status.
-fn tell_unopened(rt: &HostRuntime, path: &str, error: &io::Error) -> u8 {
-    if error.kind() == ErrorKind::OutOfMemory {
-        return tell_unread(rt, error);
-    }
-    let _ = eprintln!(rt; "mcslab: {path}: {error}");
-    Outcome::Call.status()
-}
-
-/// Returns the bytes of a file, or of the standard input; or the exit status, where they can't be
-/// read, which is reported.
-fn read_bytes(rt: &HostRuntime, file: Option<&str>) -> Result<Vec<u8>, u8> {
-    match file {
-        Some(path) => match fs::read(rt, path) {
-            Ok(bytes) => Ok(bytes),
-            Err(error) => Err(tell_unopened(rt, path, &error)),
-        },
-        None => match read_input(rt) {
-            Ok(bytes) => Ok(bytes),
-            Err(error) => Err(tell_unread(rt, &error)),
-        },
-    }
-}
-
 /// The exit status of a write.
 fn written(rt: &HostRuntime, done: io::Result<()>) -> ExitCode {
     match done {
@@ -135,8 +96,8 @@ fn write_made(rt: &HostRuntime, compiled: &Compiled, made: Made) -> Result<ExitC
 
 /// Compiles a plan, and writes what is made of it.
 fn make(rt: &HostRuntime, plan: &[u8], made: Made) -> Result<ExitCode, CompileFault> {
-    let compiled = compile_text(rt.alloc(), plan)?;
-    write_made(rt, &compiled, made)
+    let loaded = load(rt.alloc(), plan)?;
+    write_made(rt, &loaded.compiled, made)
 }
 
 /// Makes what is asked of a plan.
@@ -147,10 +108,7 @@ pub fn compile_plan(rt: &HostRuntime, file: Option<&str>, made: Made) -> ExitCod
     };
     match make(rt, &plan, made) {
         Ok(status) => status,
-        Err(fault) => {
-            let _ = eprintln!(rt; "mcslab: {fault}");
-            ExitCode::from(fault.status())
-        }
+        Err(fault) => tell_plan_fault(rt, file, &fault),
     }
 }
 

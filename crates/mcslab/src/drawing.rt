@@ -1,15 +1,15 @@
 //! The picture of a script, as the command line asks for it.
 use crate::command_line::{line, with};
+use crate::numbering::number_in;
 use clap::{Arg, ArgMatches, Command as Words, Error};
-use mcs_lab_check::LabFault;
-use mcs_lab_inspect::read_whole;
+use mcs_lab_check::{Judge, LabFault, Last, Outcome, TakesLines, Told, take_lines};
 use mcs_lab_render::{Format, Window, draw_script};
 use mcs_sim::Source;
 use std::alloc::Global;
 use std::io::{Read, Write};
 
-/// What is drawn, and as what: from a line of the book to another, or from its first or to its
-/// last.
+/// What is drawn, and as what: the steps from a line of the file to another, or from its first or
+/// to its last.
 #[derive(Clone, Copy)]
 pub struct Drawn {
     pub format: Format,
@@ -25,7 +25,7 @@ fn from<'a>(alloc: Global) -> Arg<'a> {
     line(
         alloc,
         "from",
-        "The first line of the book that is shown [default: 1]",
+        "From which line of the file on steps are shown [default: 1]",
     )
 }
 
@@ -34,7 +34,7 @@ fn to<'a>(alloc: Global) -> Arg<'a> {
     line(
         alloc,
         "to",
-        "The last line of the book that is shown [default: the last]",
+        "Up to which line of the file steps are shown [default: the last]",
     )
 }
 
@@ -50,7 +50,7 @@ fn format<'a>(alloc: Global) -> Arg<'a> {
 /// The command with no option.
 fn words<'a>(alloc: Global) -> Words<'a> {
     Words::new(alloc, "draw").about(
-        "Draws a run: a lane for each thread, a row for each line of the book",
+        "Draws a run: a lane for each thread, a row for each step that took effect",
     )
 }
 
@@ -77,52 +77,125 @@ pub fn asked(found: &ArgMatches<'_>) -> Option<Drawn> {
     })
 }
 
-/// Returns the lines that are shown where each is there.
-fn window_of(drawn: Drawn) -> Window {
-    Window {
-        first: drawn.from.unwrap_or(1) as usize,
-        last: drawn.to.unwrap_or(u64::MAX) as usize,
+/// A script that is read whole: its text, and the line of each step that is in its book.
+#[derive(Drop)]
+struct Steps {
+    judge: Judge,
+    text: Vec<u8>,
+    lines: Vec<u64>,
+}
+
+impl TakesLines for Steps {
+    fn take_line(&mut self, alloc: Global, line: &[u8]) -> Result<(), LabFault> {
+        self.text.extend_from_slice(line)?;
+        match (self.judge.take(alloc, line)?, self.judge.last()) {
+            (Told::Step, Last::LetIn { .. }) => {
+                self.lines.push(self.judge.line())?;
+                Ok(())
+            }
+            _ => Ok(()),
+        }
+    }
+
+    fn taken(&self) -> u64 {
+        self.judge.line()
     }
 }
 
-/// Returns the fault of a line beyond the end of a book that has so many, where it is.
-fn missing(line: Option<u64>, count: u64) -> Option<LabFault> {
-    let line = line?;
-    if line <= count {
-        return None;
+impl Steps {
+    /// Returns what a script says. Its faults are those of its lines, of a read, of a full book and
+    /// of memory that is refused.
+    fn read<R: Read>(alloc: Global, from: &mut Source<R>) -> Result<Steps, LabFault> {
+        let text = Vec::new(alloc);
+        let lines = Vec::new(alloc);
+        let judge = Judge::new(alloc)?;
+        let mut steps = Steps { judge, text, lines };
+        take_lines(alloc, from, &mut steps)?;
+        steps.judge.end(alloc)?;
+        Ok(steps)
     }
-    Some(LabFault::NoBookLine { line, count })
+
+    /// Returns the fault of a line beyond the end, where it is.
+    fn missing(&self, line: Option<u64>) -> Option<LabFault> {
+        let line = line?;
+        let count = self.judge.line();
+        if line <= count {
+            return None;
+        }
+        Some(LabFault::NoLine { line, count })
+    }
+
+    /// Returns how many steps of the book stand before a line, of which these are the numbers.
+    fn count_before(&self, numbers: &[u64], line: u64) -> usize {
+        self.lines
+            .iter()
+            .filter(|step| number_in(numbers, **step) < line)
+            .count()
+    }
+
+    /// Returns the lines of the book whose steps stand in these lines; None where none does.
+    fn window(&self, numbers: &[u64], drawn: Drawn) -> Option<Window> {
+        let before = match drawn.from {
+            Some(line) => self.count_before(numbers, line),
+            None => 0,
+        };
+        let last = match drawn.to {
+            Some(line) => self.count_before(numbers, line.saturating_add(1)),
+            None => self.lines.len(),
+        };
+        if before >= last {
+            return None;
+        }
+        let first = before.saturating_add(1);
+        Some(Window { first, last })
+    }
 }
 
-/// Draws a script of which lines are named. Fault NoBookLine where one is beyond the end.
+/// Draws a part of a script whose lines have these numbers, and returns the exit status. Fault
+/// NoLine where a line that is named is beyond the end of the script, unless its numbers are those
+/// of another text.
 fn draw_part<R: Read, W: Write>(
-    alloc: Global,
+    rt: &HostRuntime,
     from: &mut Source<R>,
     to: &mut W,
     drawn: Drawn,
-) -> Result<(), LabFault> {
-    let whole = read_whole(alloc, from)?;
-    let count = whole.book_lines();
-    if let Some(fault) = missing(drawn.from, count) {
+    numbers: &[u64],
+) -> Result<u8, LabFault> {
+    let alloc = rt.alloc();
+    let steps = Steps::read(alloc, from)?;
+    if numbers.is_empty()
+        && let Some(fault) = steps.missing(drawn.from).or(steps.missing(drawn.to))
+    {
         return Err(fault);
     }
-    if let Some(fault) = missing(drawn.to, count) {
-        return Err(fault);
-    }
-    let mut source = Source::new(whole.text());
-    draw_script(alloc, &mut source, to, drawn.format, window_of(drawn))
+    let Some(window) = steps.window(numbers, drawn) else {
+        let _ = rt.eprintln("mcslab: no step in these lines took effect");
+        return Ok(Outcome::Call.status());
+    };
+    let mut source = Source::new(steps.text.as_slice());
+    draw_script(alloc, &mut source, to, drawn.format, window)?;
+    Ok(Outcome::Done.status())
 }
 
-/// Draws a script. Its faults are those of `draw_script`, and NoBookLine where a line that is named
-/// is beyond the end of the book.
+/// The window of all lines.
+const ALL: Window = Window {
+    first: 1,
+    last: usize::MAX,
+};
+
+/// Draws a script whose lines have these numbers, or their own where there are none, and returns
+/// the exit status. Its faults are those of `draw_script`, and NoLine where a line that is named is
+/// beyond the end.
 pub fn draw<R: Read, W: Write>(
-    alloc: Global,
+    rt: &HostRuntime,
     from: &mut Source<R>,
     to: &mut W,
     drawn: Drawn,
-) -> Result<(), LabFault> {
-    if drawn.from.is_none() && drawn.to.is_none() {
-        return draw_script(alloc, from, to, drawn.format, window_of(drawn));
+    numbers: &[u64],
+) -> Result<u8, LabFault> {
+    if drawn.from.is_some() || drawn.to.is_some() {
+        return draw_part(rt, from, to, drawn, numbers);
     }
-    draw_part(alloc, from, to, drawn)
+    draw_script(rt.alloc(), from, to, drawn.format, ALL)?;
+    Ok(Outcome::Done.status())
 }

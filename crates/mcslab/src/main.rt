@@ -1,5 +1,12 @@
-//! The program: `mcslab check` compares what a script says of its steps with what they do,
-//! `mcslab why` says why a step did nothing, and `mcslab compile` makes a script of a plan.
+//! The program: `mcslab check` compares what a script or a plan says of its steps with what they
+//! do, `mcslab why` says why a step did nothing, `mcslab explore` goes through all orders of users.
+//!
+//! ```text
+//! words ── command_line ──> Request: a command, and its file
+//! file ── input ──> a script, which is read as it comes, or a plan, which is read whole
+//! plan ── planning ──> the command with the script that it becomes; numbering: the plan's lines
+//! faults ── telling ──> FILE:LINE: ..
+//! ```
 #![tactic(auto)]
 
 mod command_line;
@@ -7,6 +14,12 @@ mod compiling;
 mod drawing;
 mod exploring;
 mod folder;
+mod input;
+mod loading;
+mod numbering;
+mod planning;
+mod starting;
+mod telling;
 mod walking;
 
 use clap::Error;
@@ -15,28 +28,22 @@ use command_line::{Command, Request, requested};
 use drawing::{Drawn, draw};
 use exploring::{Sought, explore};
 use folder::make_folder;
+use input::{Kept, open, tell_unopened};
 use mcs_explore_questions::ExploreFault;
 use mcs_lab_check::{LabFault, Outcome, check};
 use mcs_lab_inspect::{explain, show_state, write_json};
 use mcs_sim::{Source, arguments};
+use planning::do_plan;
+use starting::begin;
 use std::alloc::{AllocError, Global};
-use std::fs::{self, File};
 use std::io::{self, BufWriter, Read, Write};
 use std::process::ExitCode;
+use telling::{Place, line_of, stranger_of, tell_fault, tell_stranger};
 use walking::walk;
-
-/// The system's number of the error that a file is a folder.
-const IS_A_FOLDER: i32 = 21;
 
 /// Returns the exit status of the program that ends so.
 fn ended(outcome: Outcome) -> ExitCode {
     ExitCode::from(outcome.status())
-}
-
-/// Tells a fault, and gives its exit status.
-fn tell(rt: &HostRuntime, fault: &ExploreFault) -> ExitCode {
-    let _ = eprintln!(rt; "{fault}");
-    ExitCode::from(fault.status())
 }
 
 /// Tells what `clap` returns in place of a command.
@@ -84,28 +91,56 @@ fn do_request<R: Read + Drop, W: Write + Drop>(
         Command::Why => explain(alloc, source, to)?,
         Command::State(wanted) => show_state(alloc, source, to, wanted)?,
         Command::Json => write_json(alloc, source, to)?,
-        Command::Draw(drawn) => {
-            draw(alloc, source, to, drawn)?;
-            true
-        }
+        Command::Draw(drawn) => return Ok(draw(rt, source, to, drawn, &[])?),
         Command::Explore(sought) => return explore(rt, source, to, sought),
         Command::Walk(chance) => {
             walk(alloc, source, to, chance)?;
             true
         }
         // these read no script of steps
-        Command::Compile(_) | Command::Names => true,
+        Command::Compile(_) | Command::Names | Command::Init(_) => true,
     };
     Ok(status_if(holds))
 }
 
-/// Opens a file to read it. The error is the system's; a folder is one.
-fn open(rt: &HostRuntime, path: &str) -> io::Result<File> {
-    let file = fs::open(rt, path)?;
-    if file.metadata()?.is_dir() {
-        return Err(io::Error::from_raw_os_error(IS_A_FOLDER));
+/// Reports a fault of a script, or what the line is where another command reads it, and gives the
+/// exit status.
+fn tell<R>(
+    rt: &HostRuntime,
+    request: &Request<'_>,
+    fault: &ExploreFault,
+    kept: &Kept<R>,
+) -> ExitCode {
+    let file = request.file;
+    let line = line_of(fault);
+    let text = line.and_then(|line| kept.line(line));
+    if let Some(text) = text
+        && let ExploreFault::Lab(LabFault::Script { why, .. }) = fault
+        && let Some(stranger) = stranger_of(rt.alloc(), request.command, *why, text)
+    {
+        return tell_stranger(rt, Place { file, line }, stranger);
     }
-    Ok(file)
+    tell_fault(rt, Place { file, line }, fault, text)
+}
+
+/// Does what is asked with a script, and gives the exit status.
+fn do_script<R: Read + Drop>(rt: &HostRuntime, request: &Request<'_>, from: R) -> ExitCode {
+    let mut kept = Kept::new(rt.alloc(), from);
+    match read_script(rt, request, &mut kept) {
+        Ok(status) => ExitCode::from(status),
+        Err(fault) => tell(rt, request, &fault, &kept),
+    }
+}
+
+/// Does what is asked with the script of a file, or of the standard input.
+fn do_file(rt: &HostRuntime, request: &Request<'_>) -> ExitCode {
+    match request.file {
+        None => do_script(rt, request, rt.reader()),
+        Some(path) => match open(rt, path) {
+            Ok(file) => do_script(rt, request, file),
+            Err(error) => ExitCode::from(tell_unopened(rt, path, &error)),
+        },
+    }
 }
 
 /// Returns whether a picture shows no line, since its first is behind its last, which is told.
@@ -124,6 +159,7 @@ fn carry_out(rt: &HostRuntime, request: &Request<'_>) -> ExitCode {
     match request.command {
         Command::Compile(made) => return compiling::compile_plan(rt, request.file, made),
         Command::Names => return compiling::tell_trace(rt, request.file),
+        Command::Init(begun) => return begin(rt, begun),
         Command::Explore(
             Sought {
                 scripts: Some(path),
@@ -147,20 +183,10 @@ fn carry_out(rt: &HostRuntime, request: &Request<'_>) -> ExitCode {
         | Command::State(_)
         | Command::Json => {}
     }
-    let done = match request.file {
-        None => read_script(rt, request, rt.reader()),
-        Some(path) => match open(rt, path) {
-            Ok(file) => read_script(rt, request, file),
-            Err(error) => {
-                let _ = eprintln!(rt; "mcslab: {path}: {error}");
-                return ended(Outcome::Call);
-            }
-        },
-    };
-    match done {
-        Ok(status) => ExitCode::from(status),
-        Err(fault) => tell(rt, &fault),
+    if request.is_plan {
+        return do_plan(rt, request);
     }
+    do_file(rt, request)
 }
 
 /// The words as texts.
@@ -174,7 +200,8 @@ fn main(rt: HostRuntime) -> ExitCode {
         return ended(Outcome::Call);
     };
     let Ok(texts) = texts(rt.alloc(), &words) else {
-        return tell(&rt, &ExploreFault::Lab(LabFault::OutOfMemory));
+        let _ = rt.eprintln(LabFault::OutOfMemory);
+        return ended(Outcome::OutOfMemory);
     };
     match requested(rt.alloc(), &texts) {
         Ok(request) => carry_out(&rt, &request),

@@ -1,0 +1,145 @@
+//! The numbers of lines in what is told of a plan: those of the plan, not of the script that came
+//! of it.
+use std::alloc::{AllocError, Global};
+
+/// How a command writes the number of a line: at the beginning of a line of its own, where nothing
+/// that a script says can stand. What it says elsewhere is left as it is.
+#[derive(Clone, Copy)]
+pub enum Form {
+    /// `ok 3 - line 12: ..`, `  line: 12`, `Bail out! line 12: ..`, as `mcslab check`.
+    Tap,
+    /// `line 12: ..`, as `mcslab why`.
+    Lines,
+    /// `{"line":12,..`, as `mcslab json`.
+    Json,
+}
+
+/// The number of a line in a line of a report, and what stands before and behind it.
+#[derive(Clone, Copy)]
+struct Found<'a> {
+    before: &'a [u8],
+    number: u64,
+    behind: &'a [u8],
+}
+
+/// Returns how many digits a text begins with.
+fn count_digits(text: &[u8]) -> usize {
+    text.iter()
+        .position(|byte| !byte.is_ascii_digit())
+        .unwrap_or(text.len())
+}
+
+/// Returns the number that digits spell; None where there are none, or too many.
+fn number_of(digits: &[u8]) -> Option<u64> {
+    if digits.is_empty() {
+        return None;
+    }
+    let mut number: u64 = 0;
+    for digit in digits {
+        let value = u64::from(digit.saturating_sub(b'0'));
+        number = number.checked_mul(10)?.checked_add(value)?;
+    }
+    Some(number)
+}
+
+/// Returns the number at this place of a line.
+fn found_at(line: &[u8], place: usize) -> Option<Found<'_>> {
+    let (before, rest) = line.split_at_checked(place)?;
+    let (digits, behind) = rest.split_at_checked(count_digits(rest))?;
+    Some(Found {
+        before,
+        number: number_of(digits)?,
+        behind,
+    })
+}
+
+/// Returns how many bytes of a line are before the number of a verdict's line.
+fn verdict_place(line: &[u8]) -> Option<usize> {
+    let rest = line.strip_prefix(b"not ".as_slice()).unwrap_or(line);
+    let rest = rest.strip_prefix(b"ok ".as_slice())?;
+    let rest = rest.get(count_digits(rest)..)?;
+    let rest = rest.strip_prefix(b" - line ".as_slice())?;
+    line.len().checked_sub(rest.len())
+}
+
+/// Returns how many bytes of a line are before its number, where they are these.
+fn place_behind(line: &[u8], head: &[u8]) -> Option<usize> {
+    line.strip_prefix(head)?;
+    Some(head.len())
+}
+
+/// Returns how many bytes of a line of a report are before the number of a line, where it has one.
+fn place_of(form: Form, line: &[u8]) -> Option<usize> {
+    match form {
+        Form::Lines => place_behind(line, b"line "),
+        Form::Json => place_behind(line, b"{\"line\":"),
+        Form::Tap => {
+            if let Some(place) = verdict_place(line) {
+                return Some(place);
+            }
+            if let Some(place) = place_behind(line, b"  line: ") {
+                return Some(place);
+            }
+            place_behind(line, b"Bail out! line ")
+        }
+    }
+}
+
+/// Returns the number that stands for a line, of these; that of the line itself where there are
+/// none.
+pub fn number_in(numbers: &[u64], line: u64) -> u64 {
+    let place = line.saturating_sub(1) as usize;
+    numbers.get(place).copied().unwrap_or(line)
+}
+
+/// Adds a number as digits.
+fn add_number(alloc: Global, to: &mut Vec<u8>, number: u64) -> Result<(), AllocError> {
+    let digits = format!(in alloc; "{number}")?;
+    to.extend_from_slice(digits.as_bytes())
+}
+
+/// Adds a line of a report, with the number that stands for that of its line.
+fn add_line(
+    alloc: Global,
+    to: &mut Vec<u8>,
+    form: Form,
+    numbers: &[u64],
+    line: &[u8],
+) -> Result<(), AllocError> {
+    let place = place_of(form, line);
+    let Some(found) = place.and_then(|place| found_at(line, place)) else {
+        return to.extend_from_slice(line);
+    };
+    to.extend_from_slice(found.before)?;
+    add_number(alloc, to, number_in(numbers, found.number))?;
+    to.extend_from_slice(found.behind)
+}
+
+/// Returns a report with the numbers that stand for those of its lines.
+pub fn renumbered(
+    alloc: Global,
+    report: &[u8],
+    form: Form,
+    numbers: &[u64],
+) -> Result<Vec<u8>, AllocError> {
+    let mut text = Vec::new(alloc);
+    for (before, line) in report.split(|byte| *byte == b'\n').enumerate() {
+        if before > 0 {
+            text.extend_from_slice(b"\n")?;
+        }
+        add_line(alloc, &mut text, form, numbers, line)?;
+    }
+    Ok(text)
+}
+
+/// Returns the last line of a script that came of this line of a plan or of one before it, but none
+/// before the end of its boot, of so many lines.
+pub fn last_line(numbers: &[u64], boot: usize, line: u64) -> u64 {
+    let mut last = boot;
+    for (before, number) in numbers.iter().enumerate() {
+        if *number <= line && before >= boot {
+            last = before.saturating_add(1);
+        }
+    }
+    last as u64
+}

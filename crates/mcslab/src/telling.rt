@@ -1,0 +1,306 @@
+//! How a fault is told: by the file that was given and its line, as compilers do.
+use crate::command_line::Command;
+use mcs_explore_questions::ExploreFault;
+use mcs_lab_check::{LabFault, Outcome, put_shown};
+use mcs_plan_source::{Plan, PlanFault, Why, split_comment, split_words};
+use mcs_plan_validate::CompileFault;
+use mcs_text::LineFault;
+use std::alloc::Global;
+use std::process::ExitCode;
+use std::{fmt, io, str};
+
+/// The place of what is told: the file, None for the standard input, and the line, where there is
+/// one.
+#[derive(Clone, Copy)]
+pub struct Place<'a> {
+    pub file: Option<&'a str>,
+    pub line: Option<u64>,
+}
+
+impl fmt::Display for Place<'_> {
+    fn fmt<W: fmt::Write>(&self, f: &mut fmt::Formatter<W>) -> fmt::Result {
+        match (self.file, self.line) {
+            (Some(file), Some(line)) => write!(f, "{file}:{line}: "),
+            (Some(file), None) => write!(f, "{file}: "),
+            (None, Some(line)) => write!(f, "mcslab: line {line}: "),
+            (None, None) => f.write_str("mcslab: "),
+        }
+    }
+}
+
+/// What is said of a line of a question or of a name that has none of their forms.
+const NO_FORM: &str = "no question and no name has this form";
+
+/// What is said of a line, behind its place.
+#[derive(Clone, Copy)]
+struct OfLine<'a>(&'a ExploreFault);
+
+impl fmt::Display for OfLine<'_> {
+    fn fmt<W: fmt::Write>(&self, f: &mut fmt::Formatter<W>) -> fmt::Result {
+        match self.0 {
+            ExploreFault::Question { why, .. } => write!(f, "question: {why}"),
+            ExploreFault::Program { why, .. } => write!(f, "program: {why}"),
+            ExploreFault::Lab(fault) => put_lab(f, *fault),
+        }
+    }
+}
+
+/// Writes what is said of a line of a script, or of what has no line.
+fn put_lab<W: fmt::Write>(f: &mut fmt::Formatter<W>, fault: LabFault) -> fmt::Result {
+    match fault {
+        LabFault::Script { why, .. } => {
+            let number = why.number();
+            write!(f, "fault {number}: {why}")
+        }
+        LabFault::Form { .. } => f.write_str(NO_FORM),
+        LabFault::Flawed {
+            why: Some(why),
+            flaw,
+            ..
+        } => {
+            let number = why.number();
+            write!(f, "fault {number}: {why}: {flaw}")
+        }
+        LabFault::Flawed {
+            why: None,
+            flaw,
+            ..
+        } => write!(f, "{NO_FORM}: {flaw}"),
+        LabFault::NoLine { .. }
+        | LabFault::NoBookLine { .. }
+        | LabFault::Read
+        | LabFault::Write
+        | LabFault::BookFull
+        | LabFault::OutOfMemory => write!(f, "{fault}"),
+    }
+}
+
+/// Returns the line of a fault, where it has one.
+pub fn line_of(fault: &ExploreFault) -> Option<u64> {
+    match fault {
+        ExploreFault::Question { line, .. } | ExploreFault::Program { line, .. } => Some(*line),
+        ExploreFault::Lab(LabFault::Script { line, .. })
+        | ExploreFault::Lab(LabFault::Form { line })
+        | ExploreFault::Lab(LabFault::Flawed { line, .. }) => Some(*line),
+        ExploreFault::Lab(
+            LabFault::NoLine { .. }
+            | LabFault::NoBookLine { .. }
+            | LabFault::Read
+            | LabFault::Write
+            | LabFault::BookFull
+            | LabFault::OutOfMemory,
+        ) => None,
+    }
+}
+
+/// What is odd in a line of a script, whose words one blank separates: its place, and what it is.
+#[derive(Clone, Copy)]
+struct Oddity {
+    place: usize,
+    what: &'static str,
+}
+
+/// Returns the place of a blank behind another one.
+fn double_blank(line: &[u8]) -> Option<usize> {
+    let mut is_behind = false;
+    for (place, byte) in line.iter().enumerate() {
+        let is_blank = *byte == b' ';
+        if is_blank && is_behind {
+            return Some(place);
+        }
+        is_behind = is_blank;
+    }
+    None
+}
+
+/// Returns what is odd in a line: a tab, a blank at its beginning or its end, or two side by side.
+fn oddity_of(line: &[u8]) -> Option<Oddity> {
+    if let Some(place) = line.iter().position(|byte| *byte == b'\t') {
+        let what = "a tab stands in it";
+        return Some(Oddity { place, what });
+    }
+    if line.starts_with(b" ") {
+        let what = "a blank stands at its beginning";
+        return Some(Oddity { place: 0, what });
+    }
+    if let Some(place) = double_blank(line) {
+        let what = "two blanks stand side by side";
+        return Some(Oddity { place, what });
+    }
+    if line.ends_with(b" ") {
+        let place = line.len().saturating_sub(1);
+        let what = "a blank stands at its end";
+        return Some(Oddity { place, what });
+    }
+    None
+}
+
+/// Returns a line as messages show it, and below it a mark at this place.
+fn marked(alloc: Global, line: &[u8], place: usize) -> io::Result<Vec<u8>> {
+    let mut before = Vec::new(alloc);
+    put_shown(&mut before, line.get(..place).unwrap_or(line))?;
+    let mut text = Vec::new(alloc);
+    text.extend_from_slice(b"  ")?;
+    put_shown(&mut text, line)?;
+    text.extend_from_slice(b"\n  ")?;
+    for _ in 0..before.len() {
+        text.extend_from_slice(b" ")?;
+    }
+    text.extend_from_slice(b"^")?;
+    Ok(text)
+}
+
+/// Reports what is odd in a line, behind its place and its fault, and shows where.
+fn tell_odd(rt: &HostRuntime, place: Place<'_>, what: OfLine<'_>, line: &[u8], odd: Oddity) {
+    let why = odd.what;
+    let _ = eprintln!(rt; "{place}{what}: {why}");
+    if let Ok(text) = marked(rt.alloc(), line, odd.place)
+        && let Ok(text) = str::from_utf8(&text)
+    {
+        let _ = eprintln!(rt; "{text}");
+    }
+}
+
+/// Returns whether a line of a script fits no form, and has no flaw of which its fault tells.
+fn has_no_form(fault: &ExploreFault) -> bool {
+    match fault {
+        ExploreFault::Lab(LabFault::Script { why, .. }) => *why == LineFault::Form,
+        ExploreFault::Lab(_) | ExploreFault::Question { .. } | ExploreFault::Program { .. } =>
+            false,
+    }
+}
+
+/// Reports a fault at this line of a file, or without a line where it has none, and returns the
+/// exit status. Where the text of the line is given and fits no form, what is odd in it is told.
+pub fn tell_fault(
+    rt: &HostRuntime,
+    place: Place<'_>,
+    fault: &ExploreFault,
+    text: Option<&[u8]>,
+) -> ExitCode {
+    let status = ExitCode::from(fault.status());
+    if place.line.is_none() {
+        let _ = eprintln!(rt; "{fault}");
+        return status;
+    }
+    let what = OfLine(fault);
+    if let Some(text) = text
+        && has_no_form(fault)
+        && let Some(odd) = oddity_of(text)
+    {
+        tell_odd(rt, place, what, text, odd);
+        return status;
+    }
+    let _ = eprintln!(rt; "{place}{what}");
+    status
+}
+
+/// Returns the line of the fault of a plan, where it has one.
+pub fn line_of_plan(fault: &CompileFault) -> Option<u64> {
+    match fault {
+        CompileFault::Plan(
+            PlanFault {
+                why: Why::OutOfMemory,
+                ..
+            },
+        ) => None,
+        CompileFault::Plan(fault) if fault.line > 0 => Some(fault.line),
+        CompileFault::Plan(_)
+        | CompileFault::Script(_)
+        | CompileFault::Boot(_)
+        | CompileFault::OtherBoot
+        | CompileFault::Astray(_)
+        | CompileFault::User(_)
+        | CompileFault::OutOfMemory => None,
+    }
+}
+
+/// Reports why a plan becomes no script, and returns the exit status.
+pub fn tell_plan_fault(rt: &HostRuntime, file: Option<&str>, fault: &CompileFault) -> ExitCode {
+    let line = line_of_plan(fault);
+    match fault {
+        CompileFault::Plan(PlanFault { why, .. }) if line.is_some() => {
+            let place = Place { file, line };
+            let _ = eprintln!(rt; "{place}{why}");
+        }
+        _ => {
+            let _ = eprintln!(rt; "mcslab: {fault}");
+        }
+    }
+    ExitCode::from(fault.status())
+}
+
+/// What a command is given that another command reads.
+#[derive(Clone, Copy, PartialEq, Eq)]
+pub enum Stranger {
+    Plan,
+    Users,
+    Steps,
+}
+
+impl Stranger {
+    /// Returns what is said of it.
+    fn text(self) -> &'static str {
+        match self {
+            Stranger::Plan => "this is a plan: name its file NAME.plan, or give --plan",
+            Stranger::Users => "this is a line of users: mcslab explore, mcslab walk or mcssim run",
+            Stranger::Steps => {
+                "this is a step: mcslab check, why, state, json or draw, or mcssim replay"
+            }
+        }
+    }
+}
+
+/// Reports that a line is one that another command reads, and returns the exit status.
+pub fn tell_stranger(rt: &HostRuntime, place: Place<'_>, stranger: Stranger) -> ExitCode {
+    let text = stranger.text();
+    let _ = eprintln!(rt; "{place}{text}");
+    ExitCode::from(Outcome::Refused.status())
+}
+
+/// Returns whether a command reads users, and not steps.
+pub fn reads_users(command: Command<'_>) -> bool {
+    match command {
+        Command::Explore(_) | Command::Walk(_) => true,
+        Command::Check
+        | Command::Why
+        | Command::State(_)
+        | Command::Json
+        | Command::Draw(_)
+        | Command::Compile(_)
+        | Command::Names
+        | Command::Init(_) => false,
+    }
+}
+
+/// Returns whether a line reads as the first of a plan.
+fn begins_plan(alloc: Global, line: &[u8]) -> bool {
+    let Ok(text) = str::from_utf8(line) else {
+        return false;
+    };
+    let (code, _) = split_comment(text);
+    let Ok(words) = split_words(alloc, code) else {
+        return false;
+    };
+    if words.is_empty() {
+        return false;
+    }
+    Plan::new(alloc).read(alloc, 1, &words).is_ok()
+}
+
+/// Returns what a line that was refused is, if another command reads it.
+pub fn stranger_of(
+    alloc: Global,
+    command: Command<'_>,
+    why: LineFault,
+    line: &[u8],
+) -> Option<Stranger> {
+    if why == LineFault::NoCores && begins_plan(alloc, line) {
+        return Some(Stranger::Plan);
+    }
+    match (reads_users(command), line) {
+        (false, _) if line.starts_with(b"user ") => Some(Stranger::Users),
+        (true, [b'0'..=b'9', ..]) => Some(Stranger::Steps),
+        _ => None,
+    }
+}
