@@ -1,5 +1,5 @@
-//! All orders of the scripts of users in `examples/explore/` and `examples/programs/`: what is
-//! reported of each, and how the scripts replay that show it.
+//! All orders of the scripts of users in `examples/explore/`, `examples/programs/` and
+//! `examples/microkit/`: what is reported of each, and how the scripts replay that show it.
 use crate::walks::draw_walks;
 use mcs_explore_questions::ExploreFault;
 use mcs_explore_report::{Output, Saves, UserScript, Wanted, explore_script};
@@ -39,6 +39,8 @@ pub const SCRIPTS: &[&str] = &[
     "programs/retry.mcs",
     "programs/retry-forever.mcs",
     "programs/restarted.mcs",
+    "microkit/files.mcs",
+    "microkit/files-call-back.mcs",
 ];
 
 /// Those that are explored once more with exact keys.

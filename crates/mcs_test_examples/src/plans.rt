@@ -4,7 +4,7 @@
 use mcs_lab_check::LabFault;
 use mcs_plan_compile::write_map;
 use mcs_plan_source::tell_names;
-use mcs_plan_validate::{CompileFault, Compiled, compile_text};
+use mcs_plan_validate::{CompileFault, Compiled, compile_text, load};
 use mcs_sim::{Sink, Source, simulate};
 use rand_core::utils::NextWord;
 use rand_pcg::Pcg32;
@@ -34,7 +34,12 @@ const USERS: &[&str] = &[
     "programs/files",
     "programs/microkit",
     "programs/retry",
+    "microkit/files",
+    "microkit/files-call-back",
 ];
+
+/// Plans with a fault, and what is reported of each.
+const FAULTS: &[&str] = &["plans/faults", "microkit/faults"];
 
 /// What a file holds.
 fn bytes_of(rt: &HostRuntime, path: &str) -> Result<Vec<u8>, LabFault> {
@@ -65,8 +70,8 @@ fn text_of(alloc: Global, compiled: &Compiled) -> Result<String, LabFault> {
 
 /// The script of a plan, or what is reported of its fault.
 fn told_of(alloc: Global, plan: &[u8]) -> Result<String, LabFault> {
-    match compile_text(alloc, plan) {
-        Ok(compiled) => text_of(alloc, &compiled),
+    match load(alloc, plan) {
+        Ok(loaded) => text_of(alloc, &loaded.compiled),
         Err(fault) => Ok(format!(in alloc; "{fault}")?),
     }
 }
@@ -156,9 +161,9 @@ fn try_names<W: Write>(rt: &HostRuntime, to: &mut W) -> Result<(), LabFault> {
 }
 
 /// Compares what is reported of each plan with a fault.
-fn try_faults<W: Write>(rt: &HostRuntime, to: &mut W) -> Result<(), LabFault> {
-    let faults = read_text(rt, "plans/faults.txt")?;
-    let wanted = read_text(rt, "plans/faults.told")?;
+fn try_faults<W: Write>(rt: &HostRuntime, to: &mut W, name: &str) -> Result<(), LabFault> {
+    let faults = read_text(rt, format!(in rt.alloc(); "{name}.txt")?.as_str())?;
+    let wanted = read_text(rt, format!(in rt.alloc(); "{name}.told")?.as_str())?;
     let mut wanted = wanted.lines();
     let mut count: usize = 0;
     for plan in faults.split("%%%\n") {
@@ -169,7 +174,7 @@ fn try_faults<W: Write>(rt: &HostRuntime, to: &mut W) -> Result<(), LabFault> {
             writeln!(to, "# NOT AS KEPT: {told}")?;
         }
     }
-    writeln!(to, "# plans/faults.txt: {count} as kept")?;
+    writeln!(to, "# {name}.txt: {count} as kept")?;
     Ok(())
 }
 
@@ -218,7 +223,9 @@ pub fn tell_plans<W: Write>(rt: &HostRuntime, to: &mut W) -> Result<(), LabFault
     for &name in USERS {
         compare(rt, to, name, false)?;
     }
-    try_faults(rt, to)?;
+    for &name in FAULTS {
+        try_faults(rt, to, name)?;
+    }
     try_large(rt, to)?;
     try_names(rt, to)
 }

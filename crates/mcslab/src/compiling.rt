@@ -1,13 +1,12 @@
 //! Plans and names, as the command line asks for them.
 use crate::command_line::with;
 use crate::input::read_bytes;
-use crate::loading::load;
 use crate::telling::tell_plan_fault;
 use clap::{Arg, ArgAction, ArgMatches, Command as Words, Error};
 use mcs_lab_check::LabFault;
 use mcs_plan_compile::write_map;
 use mcs_plan_source::tell_names;
-use mcs_plan_validate::{CompileFault, Compiled};
+use mcs_plan_validate::{CompileFault, Compiled, load};
 use std::alloc::Global;
 use std::io::{self, Write};
 use std::process::ExitCode;

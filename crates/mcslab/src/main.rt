@@ -15,7 +15,6 @@ mod drawing;
 mod exploring;
 mod folder;
 mod input;
-mod loading;
 mod numbering;
 mod planning;
 mod starting;

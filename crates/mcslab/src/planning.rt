@@ -4,7 +4,6 @@ use crate::command_line::{Command, Request};
 use crate::drawing::{Drawn, draw};
 use crate::exploring::explore;
 use crate::input::read_bytes;
-use crate::loading::{Loaded, load};
 use crate::numbering::{Form, last_line, number_in, renumbered};
 use crate::status_if;
 use crate::telling::{
@@ -14,9 +13,7 @@ use crate::walking::walk;
 use mcs_explore_questions::ExploreFault;
 use mcs_lab_check::{LabFault, Outcome, check};
 use mcs_lab_inspect::{Wanted, explain, show_state, write_json};
-use mcs_plan_validate::{
-    CompileFault, Compiled, Numbered, align_questions, compile_text, origins_of,
-};
+use mcs_plan_validate::{CompileFault, Compiled, Loaded, Numbered, align_questions, load};
 use mcs_sim::Source;
 use std::alloc::{AllocError, Global};
 use std::io::{self, BufWriter, Write};
