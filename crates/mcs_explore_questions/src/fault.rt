@@ -120,12 +120,22 @@ pub enum QuestionFault {
 }
 
 impl From<AllocError> for QuestionFault {
+    ghost use Rattle.std.specs.Prelude.{◌≡◌};
+    ghost use Rattle.mcs_explore_questions.specs.declared.fault.QuestionFault.TheVariants.{OutOfMemory};
+
+    ghost from_gives = { λ _ e. e ≡ OutOfMemory };
+
     fn from(_error: AllocError) -> QuestionFault {
         QuestionFault::OutOfMemory
     }
 }
 
 impl<T: Drop> From<AllocFailed<T>> for QuestionFault {
+    ghost use Rattle.std.specs.Prelude.{◌≡◌};
+    ghost use Rattle.mcs_explore_questions.specs.declared.fault.QuestionFault.TheVariants.{OutOfMemory};
+
+    ghost from_gives = { λ _ e. e ≡ OutOfMemory };
+
     fn from(_error: AllocFailed<T>) -> QuestionFault {
         QuestionFault::OutOfMemory
     }

@@ -1,27 +1,30 @@
 //! Whether a pattern can stand for the line of an answer or a record, by the forms of these lines.
 //! It is kept with ids in place of names.
-use crate::fault::QuestionFault;
-use crate::there::{There, id_text};
-use mcs_explore_programs::{Listed, Word};
-use mcs_lab_forms::{FORMS, Field, Fields, Forms, form_of, number_of};
-use mcs_types::{Kind, LABEL_BITS, MESSAGE_WORDS, ObjId};
-use std::alloc::Global;
+ghost use Rattle.std.specs.Prelude.{ℕ, ◌≡◌, ◌++◌, ◌∷◌, List, false, true, Some, None, IfOk, IfErr, OnOk, bytes_eq, option_copied, option_map};
+ghost use Rattle.mcs_text.specs.Reading.{words_of};
+ghost use Rattle.mcs_text.specs.Spelling.{name_text};
+ghost use Rattle.mcs_explore_questions.specs.Forms.{answer_form, are_rights, begun, behind_letter, end_of, firsts_of, fit_of, fitted, fitted_any, fitted_by, form_of, held, is_any, is_between, is_ending, is_message, is_mode, is_of, is_of_others, is_of_receivers, is_rest_last, is_status, kept, kind_named, may_be_none, message_record, names_in, object_record, object_taken, object_text, object_there, other_record, pattern_by, pattern_of, plain_sort, queue_text, record_form, sort_by, sort_of, sort_text, take_any_rights, take_capability, take_field, take_fields, take_numbers, take_reply, take_rest_of, take_sort, take_two, taken, whole_of};
+ghost use Rattle.mcs_explore_questions.specs.Patterns.{is_rest};
+ghost use Rattle.mcs_explore_questions.specs.declared.forms.Sort.TheVariants as of_sort;
+ghost use Rattle.mcs_explore_questions.specs.Reading.{Refuses, has_words, is_of_memory, texts};
+ghost use Rattle.mcs_explore_questions.specs.There.{scene_of};
 
-/// Of which lines a pattern is: their sign, and what they are.
+use crate::fault::QuestionFault;
+use crate::patterns::is_rest;
+use crate::there::{There, id_text};
+use crate::words::Reader;
+use mcs_explore_programs::{Listed, Word};
+use mcs_lab_check::queue_of;
+use mcs_lab_forms::number_of;
+use mcs_text::Words;
+use mcs_types::{Kind, LABEL_BITS, MESSAGE_WORDS, ObjId};
+use std::alloc::{AllocError, Global};
+
+/// Of which lines a pattern is.
 #[derive(Clone, Copy)]
 pub enum Lines {
     Answers,
     Records,
-}
-
-impl Lines {
-    /// The sign of these lines.
-    fn sign(self) -> u8 {
-        match self {
-            Lines::Answers => b'=',
-            Lines::Records => b'+',
-        }
-    }
 }
 
 /// What a word of a form says.
@@ -39,71 +42,111 @@ enum Sort {
     Queue,
     /// Rights, as `rw`, or a dash for none.
     Rights,
-    /// One of these words.
-    Choice(&'static [&'static [u8]]),
+    /// Rights, or the bits of a guard.
+    Either,
+    /// What a thread does.
+    Status,
+    /// How a message was sent.
+    Mode,
+    /// Why a reply object became void.
+    Ending,
+}
+
+/// Whether a word is this one.
+fn is(word: &[u8], text: &[u8]) -> bool
+    ensures { result ≡ bytes_eq word.now text.now }
+{
+    word == text
 }
 
 /// The kind of the objects that words of this name in a form name.
-fn kind_named(name: &[u8]) -> Option<Kind> {
-    match name {
-        b"thread" => Some(Kind::Thread),
-        b"endpoint" => Some(Kind::Endpoint),
-        b"notification" => Some(Kind::Notification),
-        b"reply" => Some(Kind::Reply),
-        b"context" => Some(Kind::Context),
-        b"cnode" => Some(Kind::CNode),
-        _ => None,
+#[tactic(auto, unfolding(crate::specs::Forms::kind_named))]
+fn kind_named(name: &[u8]) -> Option<Kind>
+    ensures { result ≡ kind_named name.now }
+{
+    if is(name, b"thread") {
+        return Some(Kind::Thread);
     }
+    if is(name, b"endpoint") {
+        return Some(Kind::Endpoint);
+    }
+    if is(name, b"notification") {
+        return Some(Kind::Notification);
+    }
+    if is(name, b"reply") {
+        return Some(Kind::Reply);
+    }
+    if is(name, b"context") {
+        return Some(Kind::Context);
+    }
+    if is(name, b"cnode") {
+        return Some(Kind::CNode);
+    }
+    None
 }
 
 /// Whether a dash may stand for no object of this name, in a line of this first word.
-fn may_be_none(first: &[u8], name: &[u8]) -> bool {
-    match first {
-        b"owes" => name == b"context".as_slice(),
-        b"holds" => name == b"thread".as_slice(),
-        b"tied" | b"homed" => name == b"notification".as_slice(),
-        b"joins" => name == b"reply".as_slice(),
-        _ => false,
+#[tactic(auto, unfolding(crate::specs::Forms::may_be_none))]
+fn may_be_none(first: &[u8], name: &[u8]) -> bool
+    ensures { result ≡ may_be_none first.now name.now }
+{
+    if is(first, b"owes") {
+        return is(name, b"context");
     }
-}
-
-/// The words among which one of this name is, in a line of this first word.
-fn choice_of(first: &[u8], name: &[u8]) -> Option<Sort> {
-    if name == b"ending".as_slice() {
-        return Some(Sort::Choice(&[b"deleted", b"cancelled"]));
+    if is(first, b"holds") {
+        return is(name, b"thread");
     }
-    if name != b"mode".as_slice() {
-        return None;
+    if is(first, b"tied") || is(first, b"homed") {
+        return is(name, b"notification");
     }
-    if first == b"turns".as_slice() {
-        Some(Sort::Choice(&[b"running", b"restart", b"inactive"]))
-    } else {
-        Some(Sort::Choice(&[b"send", b"call", b"mute", b"give"]))
-    }
+    false
 }
 
 /// The sort of the words of this name that name no object of one kind.
-fn plain_sort(name: &[u8]) -> Sort {
-    match name {
-        b"object" => Sort::Object(None),
-        b"message" => Sort::Message,
-        b"queue" => Sort::Queue,
-        b"priority" | b"index" => Sort::Number(0, 255),
-        b"label" => Sort::Number(0, (1 << LABEL_BITS) - 1),
-        b"reason" => Sort::Number(1, 13),
-        _ => Sort::Number(0, u64::MAX),
+#[tactic(auto, unfolding(crate::specs::Forms::plain_sort))]
+fn plain_sort(first: &[u8], name: &[u8]) -> Sort
+    ensures { result ≡ plain_sort first.now name.now }
+{
+    if is(name, b"object") {
+        return Sort::Object(None);
     }
+    if is(name, b"message") {
+        return Sort::Message;
+    }
+    if is(name, b"queue") {
+        return Sort::Queue;
+    }
+    if is(name, b"ending") {
+        return Sort::Ending;
+    }
+    if is(name, b"mode") {
+        return if is(first, b"turns") {
+            Sort::Status
+        } else {
+            Sort::Mode
+        };
+    }
+    if is(name, b"priority") || is(name, b"index") {
+        return Sort::Number(0, 255);
+    }
+    if is(name, b"label") {
+        return Sort::Number(0, (1 << LABEL_BITS) - 1);
+    }
+    if is(name, b"reason") {
+        return Sort::Number(1, 13);
+    }
+    Sort::Number(0, u64::MAX)
 }
 
 /// The sort of the words of this name in the form of lines with this first word.
-fn sort_of(first: &[u8], name: &[u8]) -> Sort {
-    if let Some(choice) = choice_of(first, name) {
-        return choice;
-    }
+#[tactic(auto, unfolding(crate::specs::Forms::sort_of))]
+fn sort_of(first: &[u8], name: &[u8]) -> Sort
+    ensures { result ≡ sort_of first.now name.now }
+{
     match kind_named(name) {
         Some(kind) if may_be_none(first, name) => Sort::Maybe(kind),
         Some(kind) => Sort::Object(Some(kind)),
-        None => plain_sort(name),
+        None => plain_sort(first, name),
     }
 }
 
@@ -114,13 +157,13 @@ fn wanted_of(sort: Sort) -> &'static str {
         Sort::Maybe(kind) => wanted_kind(Some(kind)),
         Sort::Number(1, 13) => "the number of a refusal, 1 to 13",
         Sort::Number(_, 255) => "a number up to 255",
-        Sort::Number(_, _) => "a number",
+        Sort::Number(_, _) | Sort::Either => "a number",
         Sort::Message => "a message, as m4",
         Sort::Queue => "a queue, as e1.send, e1.recv or n1.wait",
         Sort::Rights => "rights, as rw",
-        Sort::Choice([b"running", ..]) => "running, restart or inactive",
-        Sort::Choice([b"send", ..]) => "send, call, mute or give",
-        Sort::Choice(_) => "deleted or cancelled",
+        Sort::Status => "running, restart or inactive",
+        Sort::Mode => "send, call, mute or give",
+        Sort::Ending => "deleted or cancelled",
     }
 }
 
@@ -138,343 +181,1004 @@ fn wanted_kind(kind: Option<Kind>) -> &'static str {
 }
 
 /// Whether a word stands for any.
-fn is_any(word: &[u8]) -> bool {
-    word == b"*".as_slice()
+fn is_any(word: &[u8]) -> bool
+    ensures { result ≡ is_any word.now }
+{
+    is(word, b"*")
 }
 
-/// Whether a word stands for the rest.
-fn is_rest(word: &[u8]) -> bool {
-    word == b"**".as_slice()
+/// The bytes behind a letter, if it is the first.
+fn behind_letter(letter: u8, word: &[u8]) -> &[u8]
+    ensures { result.now ≡ behind_letter letter word.entry.now }
+{
+    match word {
+        [first, rest @ ..] if *first == letter => rest,
+        _ => word,
+    }
 }
 
 /// Whether a word writes rights: letters of `rwgp` in this order, or a dash.
-fn are_rights(word: &[u8]) -> bool {
-    let mut rest = word;
-    for letter in b"rwgp" {
-        if let [first, behind @ ..] = rest
-            && *first == *letter
-        {
-            rest = behind;
-        }
-    }
-    word == b"-".as_slice() || (!word.is_empty() && rest.is_empty())
+fn are_rights(word: &[u8]) -> bool
+    ensures { result ≡ are_rights word.now }
+{
+    let read = behind_letter(b'r', word);
+    let written = behind_letter(b'w', read);
+    let granted = behind_letter(b'g', written);
+    is(word, b"-") || (!word.is_empty() && behind_letter(b'p', granted).is_empty())
 }
 
-/// A pattern that is read by a form: its words after the first, and the text that comes of it.
-#[derive(Drop)]
-struct Fitting<'a> {
-    alloc: Global,
-    there: There<'a>,
-    words: &'a [&'a [u8]],
-    taken: usize,
-    text: Vec<u8>,
-}
-
-impl<'a> Fitting<'a> {
-    /// The next word, which is left.
-    fn peek(&self) -> Option<&'a [u8]> {
-        self.words.get(self.taken).copied()
-    }
-
-    /// Puts what a word becomes after the text.
-    fn put(&mut self, word: &[u8]) -> Result<(), QuestionFault> {
-        self.taken = self.taken.saturating_add(1);
-        self.text.extend_from_slice(b" ")?;
-        self.text.extend_from_slice(word)?;
-        Ok(())
-    }
-
-    /// The fault of a word that is not what is wanted.
-    fn not(&self, word: &[u8], wanted: &'static str) -> Result<QuestionFault, QuestionFault> {
-        Ok(QuestionFault::Not {
-            word: Word::new(self.alloc, word)?,
-            wanted,
-        })
-    }
-
-    /// Puts the id of an object that a word names.
-    fn put_object(&mut self, word: &[u8], kind: Option<Kind>) -> Result<ObjId, QuestionFault> {
-        let Some(object) = self.there.object(self.alloc, word)? else {
-            return Err(self.not(word, wanted_kind(kind))?);
-        };
-        if kind.is_some_and(|kind| !kind.is_same(object.kind)) {
-            return Err(self.not(word, wanted_kind(kind))?);
-        }
-        self.there.expect(self.alloc, word, object)?;
-        self.put(id_text(self.alloc, object)?.as_bytes())?;
-        Ok(object)
-    }
-
-    /// Puts a queue that a word names.
-    fn put_queue(&mut self, word: &[u8]) -> Result<(), QuestionFault> {
-        let Some((object, end)) = self.there.queue(self.alloc, word)? else {
-            return Err(self.not(word, wanted_of(Sort::Queue))?);
-        };
-        self.there.expect(self.alloc, word, object)?;
-        self.put(id_text(self.alloc, object)?.as_bytes())?;
-        self.text.extend_from_slice(end)?;
-        Ok(())
-    }
-
-    /// Puts a word that is one of a sort as it is.
-    fn put_if(&mut self, word: &[u8], sort: Sort, is_so: bool) -> Result<(), QuestionFault> {
-        if is_so {
-            self.put(word)
-        } else {
-            Err(self.not(word, wanted_of(sort))?)
-        }
-    }
-
-    /// Puts a word of a sort.
-    fn put_sort(&mut self, word: &[u8], sort: Sort) -> Result<(), QuestionFault> {
-        match sort {
-            Sort::Object(kind) => {
-                self.put_object(word, kind)?;
-                Ok(())
-            }
-            Sort::Maybe(_) if word == b"-".as_slice() => self.put(word),
-            Sort::Maybe(kind) => {
-                self.put_object(word, Some(kind))?;
-                Ok(())
-            }
-            Sort::Number(least, most) => {
-                let number = number_of(word);
-                let is_so = number.is_some_and(|n| least <= n && n <= most);
-                self.put_if(word, sort, is_so)
-            }
-            Sort::Message => {
-                let is_so = match word {
-                    [b'm', digits @ ..] => number_of(digits).is_some(),
-                    _ => false,
-                };
-                self.put_if(word, sort, is_so)
-            }
-            Sort::Queue => self.put_queue(word),
-            Sort::Rights => self.put_if(word, sort, are_rights(word)),
-            Sort::Choice(words) => {
-                let is_so = words.iter().any(|choice| *choice == word);
-                self.put_if(word, sort, is_so)
-            }
-        }
-    }
-
-    /// Takes a word of a sort, or one that stands for any. Short where none is left. Nothing is
-    /// taken where the rest is any.
-    fn take(&mut self, sort: Sort, name: &[u8]) -> Result<(), QuestionFault> {
-        match self.peek() {
-            None => Err(QuestionFault::Short {
-                field: Word::new(self.alloc, name)?,
-            }),
-            Some(word) if is_rest(word) => Ok(()),
-            Some(word) if is_any(word) => self.put(word),
-            Some(word) => self.put_sort(word, sort),
-        }
-    }
-
-    /// Takes a capability of which any object is: it ends there, or has two words more.
-    fn take_any_capability(&mut self) -> Result<(), QuestionFault> {
-        self.put(b"*")?;
-        let Some(word) = self.peek() else {
-            return Ok(());
-        };
-        if are_rights(word) {
-            self.put(word)?;
-        } else {
-            self.take(Sort::Number(0, 64), b"rights")?;
-        }
-        self.take(Sort::Number(0, u64::MAX), b"badge")
-    }
-
-    /// Puts a capability: an object, and two words more where its kind has them.
-    fn put_capability(&mut self, word: &[u8]) -> Result<(), QuestionFault> {
-        if word == b"-".as_slice() {
-            return self.put(word);
-        }
-        let object = self.put_object(word, None)?;
-        match object.kind {
-            Kind::Thread | Kind::Reply | Kind::Context => Ok(()),
-            Kind::Endpoint | Kind::Notification => {
-                self.take(Sort::Rights, b"rights")?;
-                self.take(Sort::Number(0, u64::MAX), b"badge")
-            }
-            Kind::CNode => {
-                self.take(Sort::Number(0, 64), b"guard bits")?;
-                self.take(Sort::Number(0, u64::MAX), b"guard")
-            }
-        }
-    }
-
-    /// Takes a capability.
-    fn take_capability(&mut self) -> Result<(), QuestionFault> {
-        match self.peek() {
-            None => Err(QuestionFault::Short {
-                field: Word::new(self.alloc, b"capability")?,
-            }),
-            Some(word) if is_rest(word) => Ok(()),
-            Some(word) if is_any(word) => self.take_any_capability(),
-            Some(word) => self.put_capability(word),
-        }
-    }
-
-    /// Takes the words of a message.
-    fn take_numbers(&mut self) -> Result<(), QuestionFault> {
-        for _ in 0..MESSAGE_WORDS {
-            if self.peek().is_none() {
-                break;
-            }
-            self.take(Sort::Number(0, u64::MAX), b"word")?;
-        }
-        Ok(())
-    }
-
-    /// Takes the reply object of a thread that joins a queue: only a receiver has one, or a dash.
-    fn take_reply(&mut self) -> Result<(), QuestionFault> {
-        let queue = self.words.get(self.taken.saturating_sub(1)).copied();
-        let may_end = match queue {
-            Some([.., b'.', b'r', b'e', b'c', b'v']) => false,
-            Some([.., b'.', b's', b'e', b'n', b'd'] | [.., b'.', b'w', b'a', b'i', b't']) => {
-                return Ok(());
-            }
-            _ => self.peek().is_none(),
-        };
-        if may_end {
-            return Ok(());
-        }
-        self.take(Sort::Maybe(Kind::Reply), b"reply")
-    }
-
-    /// Takes what a field of a form names.
-    fn take_field(&mut self, first: &[u8], field: Field<'_>) -> Result<(), QuestionFault> {
-        match (first, field.name) {
-            (b"joins", b"reply") => self.take_reply(),
-            (_, b"words") => self.take_numbers(),
-            (_, b"capability") => self.take_capability(),
-            (_, name) => self.take(sort_of(first, name), name),
-        }
-    }
-
-    /// Takes all words by the form of lines with this first word.
-    fn take_all(&mut self, first: &[u8], fields: Fields<'_>) -> Result<(), QuestionFault> {
-        let mut fields = fields;
-        for _ in 0..=MESSAGE_WORDS {
-            match fields.next_field() {
-                Some(field) => self.take_field(first, field)?,
-                None => break,
-            }
-        }
-        match self.peek() {
-            None => Ok(()),
-            Some(word) if is_rest(word) => self.put(word),
-            Some(word) => Err(QuestionFault::TooMany {
-                word: Word::new(self.alloc, word)?,
-            }),
-        }
+/// Whether a number is one from the least to the most.
+fn is_between(least: u64, most: u64, number: Option<u64>) -> bool
+    ensures { result ≡ is_between least most number }
+{
+    match number {
+        Some(n) => least <= n && n <= most,
+        None => false,
     }
 }
 
-/// A pattern by the form of lines with this first word, which may be in it as a word for any.
-fn fitted(
+/// Whether a word is a message, as `m4`.
+fn is_message(word: &[u8]) -> bool
+    ensures { result ≡ is_message word.now }
+{
+    match word {
+        [letter, digits @ ..] => *letter == b'm' && number_of(digits).is_some(),
+        [] => false,
+    }
+}
+
+/// Whether a word says what a thread does.
+fn is_status(word: &[u8]) -> bool
+    ensures { result ≡ is_status word.now }
+{
+    is(word, b"running") || is(word, b"restart") || is(word, b"inactive")
+}
+
+/// Whether a word says how a message was sent.
+fn is_mode(word: &[u8]) -> bool
+    ensures { result ≡ is_mode word.now }
+{
+    (is(word, b"send") || is(word, b"call")) || (is(word, b"mute") || is(word, b"give"))
+}
+
+/// Whether a word says why a reply object became void.
+fn is_ending(word: &[u8]) -> bool
+    ensures { result ≡ is_ending word.now }
+{
+    is(word, b"deleted") || is(word, b"cancelled")
+}
+
+/// The fault of a word that is not what is wanted.
+fn not(alloc: Global, word: &[u8], wanted: &'static str) -> Result<QuestionFault, AllocError>
+    ensures { IfOk result (λ e. is_of_memory e ≡ false) }
+{
+    Ok(QuestionFault::Not {
+        word: Word::new(alloc, word)?,
+        wanted,
+    })
+}
+
+/// The fault of a word that is missing.
+fn short(alloc: Global, name: &[u8]) -> Result<QuestionFault, AllocError>
+    ensures { IfOk result (λ e. is_of_memory e ≡ false) }
+{
+    Ok(QuestionFault::Short {
+        field: Word::new(alloc, name)?,
+    })
+}
+
+/// The object of a kind that a word names, and that can be there.
+#[tactic(auto, unfolding(crate::specs::Forms::object_there))]
+fn object_there(
     alloc: Global,
     there: There<'_>,
-    lines: Lines,
-    first: &[u8],
-    words: &[&[u8]],
-) -> Result<Option<Vec<u8>>, QuestionFault> {
-    let Some(fields) = form_of(Some(lines.sign()), first) else {
-        return Ok(None);
+    kind: Option<Kind>,
+    word: &[u8],
+) -> Result<ObjId, QuestionFault>
+    ensures said { IfOk result (λ o. object_there (scene_of there.entry) kind word.now ≡ Some o) }
+    ensures told { IfErr result (Refuses (object_there (scene_of there.entry) kind word.now)) }
+{
+    let Some(object) = there.object(alloc, word)? else {
+        return Err(not(alloc, word, wanted_kind(kind))?);
     };
-    let mut text = Vec::new(alloc);
-    if let Some(word) = words.first() {
-        text.extend_from_slice(*word)?;
+    if !is_of(kind, object) {
+        return Err(not(alloc, word, wanted_kind(kind))?);
     }
-    let mut fitting = Fitting {
+    there.expect(alloc, word, object)?;
+    Ok(object)
+}
+
+/// Whether an object is of a kind, where that matters.
+fn is_of(kind: Option<Kind>, object: ObjId) -> bool
+    ensures { result ≡ is_of kind object }
+{
+    match kind {
+        Some(kind) => kind.is_same(object.kind),
+        None => true,
+    }
+}
+
+/// The bytes of an id.
+fn id_bytes(alloc: Global, object: ObjId) -> Result<Vec<u8>, AllocError>
+    ensures { IfOk result (λ v. v.items ≡ name_text object) }
+{
+    let text = id_text(alloc, object)?;
+    Vec::from_slice(alloc, text.as_bytes())
+}
+
+/// The text that the name of an object becomes: its id.
+#[tactic(auto, unfolding(crate::specs::Forms::object_text))]
+fn object_text(
+    alloc: Global,
+    there: There<'_>,
+    kind: Option<Kind>,
+    word: &[u8],
+) -> Result<Vec<u8>, QuestionFault>
+    ensures said { IfOk result (λ v. object_text (scene_of there.entry) kind word.now
+        ≡ Some v.items) }
+    ensures told { IfErr result (Refuses (object_text (scene_of there.entry) kind word.now)) }
+{
+    let object = object_there(alloc, there, kind, word)?;
+    Ok(id_bytes(alloc, object)?)
+}
+
+/// The id of an object with an ending.
+fn with_end(alloc: Global, object: ObjId, end: &[u8]) -> Result<Vec<u8>, AllocError>
+    ensures { IfOk result (λ v. v.items ≡ name_text object ++ end.now) }
+{
+    let mut text = id_bytes(alloc, object)?;
+    text.extend_from_slice(end)?;
+    Ok(text)
+}
+
+/// The text that the name of a queue becomes: the id of its object, with its end.
+#[tactic(auto, unfolding(crate::specs::Forms::queue_text))]
+fn queue_text(alloc: Global, there: There<'_>, word: &[u8]) -> Result<Vec<u8>, QuestionFault>
+    ensures said { IfOk result (λ v. queue_text (scene_of there.entry) word.now ≡ Some v.items) }
+    ensures told { IfErr result (Refuses (queue_text (scene_of there.entry) word.now)) }
+{
+    let at = word.len().saturating_sub(5);
+    let Some(object) = there.object(alloc, &word[..at])? else {
+        return Err(not(alloc, word, wanted_of(Sort::Queue))?);
+    };
+    let text = with_end(alloc, object, &word[at..])?;
+    if queue_of(text.as_slice()).is_none() {
+        return Err(not(alloc, word, wanted_of(Sort::Queue))?);
+    }
+    there.expect(alloc, word, object)?;
+    Ok(text)
+}
+
+/// A word, if it may stay as it is.
+fn kept(
+    alloc: Global,
+    is_so: bool,
+    word: &[u8],
+    wanted: &'static str,
+) -> Result<Vec<u8>, QuestionFault>
+    ensures said { IfOk result (λ v. kept is_so word.now ≡ Some v.items) }
+    ensures told { IfErr result (Refuses (kept is_so word.now)) }
+{
+    if is_so {
+        return Ok(Vec::from_slice(alloc, word)?);
+    }
+    Err(not(alloc, word, wanted)?)
+}
+
+/// The text that a word of a sort becomes.
+#[tactic(auto, unfolding(crate::specs::Forms::sort_text))]
+fn sort_text(
+    alloc: Global,
+    there: There<'_>,
+    sort: Sort,
+    word: &[u8],
+) -> Result<Vec<u8>, QuestionFault>
+    ensures said { IfOk result (λ v. sort_text (scene_of there.entry) sort word.now
+        ≡ Some v.items) }
+    ensures told { IfErr result (Refuses (sort_text (scene_of there.entry) sort word.now)) }
+{
+    let is_so = match sort {
+        Sort::Object(kind) => return object_text(alloc, there, kind, word),
+        Sort::Maybe(kind) => {
+            if !is(word, b"-") {
+                return object_text(alloc, there, Some(kind), word);
+            }
+            true
+        }
+        Sort::Queue => return queue_text(alloc, there, word),
+        Sort::Number(least, most) => is_between(least, most, number_of(word)),
+        Sort::Message => is_message(word),
+        Sort::Rights => are_rights(word),
+        Sort::Either => are_rights(word) || is_between(0, 64, number_of(word)),
+        Sort::Status => is_status(word),
+        Sort::Mode => is_mode(word),
+        Sort::Ending => is_ending(word),
+    };
+    kept(alloc, is_so, word, wanted_of(sort))
+}
+
+/// A pattern that is read by a form: the last word that was taken, the text so far, and whether a
+/// word for the rest was taken.
+#[derive(Drop)]
+struct Pattern<'a> {
+    last: &'a [u8],
+    text: Vec<u8>,
+    ended: bool,
+}
+
+impl<'a> Pattern<'a> {
+    /// Adds a word that was taken, and what it becomes.
+    fn put(&mut self, word: &'a [u8], text: &[u8]) -> Result<(), AllocError>
+        ensures last { OnOk result (self.new.last.now ≡ word.entry.now) }
+        ensures text { OnOk result (self.new.text.items ≡ self.old.text.items ++ 32 ∷ text.now) }
+        ensures ended { OnOk result (self.new.ended ≡ self.old.ended) }
+    {
+        self.last = word;
+        self.text.extend_from_slice(b" ")?;
+        self.text.extend_from_slice(text)
+    }
+
+    /// Adds a word for the rest that was taken.
+    fn put_rest(&mut self, word: &'a [u8]) -> Result<(), AllocError>
+        ensures last { OnOk result (self.new.last.now ≡ word.entry.now) }
+        ensures text { OnOk result
+            (self.new.text.items ≡ self.old.text.items ++ 32 ∷ word.entry.now) }
+        ensures ended { OnOk result (self.new.ended ≡ true) }
+    {
+        self.put(word, word)?;
+        self.ended = true;
+        Ok(())
+    }
+}
+
+/// Adds a word of a sort that was taken, or one that stands for any.
+fn taken<'a>(
+    alloc: Global,
+    there: There<'_>,
+    sort: Sort,
+    word: &'a [u8],
+    pattern: &mut Pattern<'a>,
+) -> Result<(), QuestionFault>
+    ensures said { OnOk result ((f : List (List ℕ)) (words : List (List ℕ))
+        → taken (scene_of there.entry) sort (fit_of pattern.old f) word.entry.now words
+        ≡ Some (fit_of pattern.new words)) }
+    ensures told { IfErr result (λ e. (f : List (List ℕ)) (words : List (List ℕ))
+        → Refuses (taken (scene_of there.entry) sort
+        (fit_of pattern.old f) word.entry.now words) e) }
+{
+    if is_rest(word) {
+        pattern.put_rest(word)?;
+        return Ok(());
+    }
+    if is_any(word) {
+        pattern.put(word, word)?;
+        return Ok(());
+    }
+    let text = sort_text(alloc, there, sort, word)?;
+    pattern.put(word, text.as_slice())?;
+    Ok(())
+}
+
+/// Takes a word of a sort, or one that stands for any. Short where none is left. Nothing is
+/// taken behind a word for the rest.
+fn take<'a>(
+    alloc: Global,
+    there: There<'_>,
+    sort: Sort,
+    name: &[u8],
+    words: &mut Reader<'a>,
+    pattern: &mut Pattern<'a>,
+) -> Result<(), QuestionFault>
+    ensures said { OnOk result (take_sort (scene_of there.entry) sort (fit_of pattern.old words.old)
+        ≡ Some (fit_of pattern.new words.new)) }
+    ensures told { IfErr result (Refuses (take_sort (scene_of there.entry) sort
+        (fit_of pattern.old words.old))) }
+{
+    if pattern.ended {
+        return Ok(());
+    }
+    let Some(word) = words.next() else {
+        return Err(short(alloc, name)?);
+    };
+    taken(alloc, there, sort, word, pattern)
+}
+
+/// Takes the rights and the badge of a capability.
+#[tactic(auto, unfolding(crate::specs::Forms::take_two))]
+fn take_badged<'a>(
+    alloc: Global,
+    there: There<'_>,
+    words: &mut Reader<'a>,
+    pattern: &mut Pattern<'a>,
+) -> Result<(), QuestionFault>
+    ensures said { OnOk result (take_two (scene_of there.entry) of_sort.Rights
+        (of_sort.Number 0 18446744073709551615) (fit_of pattern.old words.old)
+        ≡ Some (fit_of pattern.new words.new)) }
+    ensures told { IfErr result (Refuses (take_two (scene_of there.entry) of_sort.Rights
+        (of_sort.Number 0 18446744073709551615) (fit_of pattern.old words.old))) }
+{
+    take(alloc, there, Sort::Rights, b"rights", words, pattern)?;
+    take(
         alloc,
         there,
+        Sort::Number(0, u64::MAX),
+        b"badge",
         words,
-        taken: 1,
-        text,
+        pattern,
+    )
+}
+
+/// Takes the bits and the value of a guard.
+#[tactic(auto, unfolding(crate::specs::Forms::take_two))]
+fn take_guarded<'a>(
+    alloc: Global,
+    there: There<'_>,
+    words: &mut Reader<'a>,
+    pattern: &mut Pattern<'a>,
+) -> Result<(), QuestionFault>
+    ensures said { OnOk result (take_two (scene_of there.entry) (of_sort.Number 0 64)
+        (of_sort.Number 0 18446744073709551615) (fit_of pattern.old words.old)
+        ≡ Some (fit_of pattern.new words.new)) }
+    ensures told { IfErr result (Refuses (take_two (scene_of there.entry) (of_sort.Number 0 64)
+        (of_sort.Number 0 18446744073709551615) (fit_of pattern.old words.old))) }
+{
+    take(
+        alloc,
+        there,
+        Sort::Number(0, 64),
+        b"guard bits",
+        words,
+        pattern,
+    )?;
+    take(
+        alloc,
+        there,
+        Sort::Number(0, u64::MAX),
+        b"guard",
+        words,
+        pattern,
+    )
+}
+
+/// Takes what follows the object of a capability, by its kind.
+#[tactic(auto, unfolding(crate::specs::Forms::take_rest_of))]
+fn take_rest_of<'a>(
+    alloc: Global,
+    there: There<'_>,
+    kind: Kind,
+    words: &mut Reader<'a>,
+    pattern: &mut Pattern<'a>,
+) -> Result<(), QuestionFault>
+    ensures said { OnOk result (take_rest_of (scene_of there.entry) kind
+        (fit_of pattern.old words.old)
+        ≡ Some (fit_of pattern.new words.new)) }
+    ensures told { IfErr result (Refuses (take_rest_of (scene_of there.entry) kind
+        (fit_of pattern.old words.old))) }
+{
+    match kind {
+        Kind::Thread | Kind::Reply | Kind::Context => Ok(()),
+        Kind::Endpoint | Kind::Notification => take_badged(alloc, there, words, pattern),
+        Kind::CNode => take_guarded(alloc, there, words, pattern),
+    }
+}
+
+/// Takes what follows a capability of which any object is: nothing, or two words more.
+#[tactic(auto, unfolding(crate::specs::Forms::take_any_rights))]
+fn take_any_rights<'a>(
+    alloc: Global,
+    there: There<'_>,
+    words: &mut Reader<'a>,
+    pattern: &mut Pattern<'a>,
+) -> Result<(), QuestionFault>
+    ensures said { OnOk result (take_any_rights (scene_of there.entry)
+        (fit_of pattern.old words.old) words.old
+        ≡ Some (fit_of pattern.new words.new)) }
+    ensures told { IfErr result (Refuses
+        (take_any_rights (scene_of there.entry) (fit_of pattern.old words.old) words.old)) }
+{
+    let Some(word) = words.next() else {
+        return Ok(());
     };
-    fitting.take_all(first, fields)?;
-    let Fitting { text, .. } = fitting;
-    Ok(Some(text))
+    taken(alloc, there, Sort::Either, word, pattern)?;
+    take(
+        alloc,
+        there,
+        Sort::Number(0, u64::MAX),
+        b"badge",
+        words,
+        pattern,
+    )
+}
+
+/// Takes a capability that begins with the object of a word that was taken.
+#[tactic(auto, unfolding(crate::specs::Forms::object_taken))]
+fn take_object<'a>(
+    alloc: Global,
+    there: There<'_>,
+    word: &'a [u8],
+    words: &mut Reader<'a>,
+    pattern: &mut Pattern<'a>,
+) -> Result<(), QuestionFault>
+    ensures said { OnOk result ((f : List (List ℕ))
+        → object_taken (scene_of there.entry) (fit_of pattern.old f) word.entry.now words.old
+        ≡ Some (fit_of pattern.new words.new)) }
+    ensures told { IfErr result (λ e. (f : List (List ℕ))
+        → Refuses (object_taken (scene_of there.entry)
+        (fit_of pattern.old f) word.entry.now words.old) e) }
+{
+    let object = object_there(alloc, there, None, word)?;
+    let id = id_bytes(alloc, object)?;
+    pattern.put(word, id.as_slice())?;
+    take_rest_of(alloc, there, object.kind, words, pattern)
+}
+
+/// Takes a capability that begins with a word that was taken.
+#[tactic(auto, unfolding(crate::specs::Forms::held))]
+fn take_held<'a>(
+    alloc: Global,
+    there: There<'_>,
+    word: &'a [u8],
+    words: &mut Reader<'a>,
+    pattern: &mut Pattern<'a>,
+) -> Result<(), QuestionFault>
+    ensures said { OnOk result ((f : List (List ℕ))
+        → held (scene_of there.entry) (fit_of pattern.old f) word.entry.now words.old
+        ≡ Some (fit_of pattern.new words.new)) }
+    ensures told { IfErr result (λ e. (f : List (List ℕ))
+        → Refuses (held (scene_of there.entry) (fit_of pattern.old f) word.entry.now words.old) e) }
+{
+    if is_rest(word) {
+        pattern.put_rest(word)?;
+        return Ok(());
+    }
+    if is_any(word) {
+        pattern.put(word, word)?;
+        return take_any_rights(alloc, there, words, pattern);
+    }
+    if is(word, b"-") {
+        pattern.put(word, word)?;
+        return Ok(());
+    }
+    take_object(alloc, there, word, words, pattern)
+}
+
+/// Takes a capability: a dash, any, or an object with two words more where its kind has them.
+#[tactic(auto, unfolding(crate::specs::Forms::take_capability))]
+fn take_capability<'a>(
+    alloc: Global,
+    there: There<'_>,
+    words: &mut Reader<'a>,
+    pattern: &mut Pattern<'a>,
+) -> Result<(), QuestionFault>
+    ensures said { OnOk result (take_capability (scene_of there.entry)
+        (fit_of pattern.old words.old)
+        ≡ Some (fit_of pattern.new words.new)) }
+    ensures told { IfErr result (Refuses (take_capability (scene_of there.entry)
+        (fit_of pattern.old words.old))) }
+{
+    if pattern.ended {
+        return Ok(());
+    }
+    let Some(word) = words.next() else {
+        return Err(short(alloc, b"capability")?);
+    };
+    take_held(alloc, there, word, words, pattern)
+}
+
+/// Takes the words of a message.
+fn take_numbers<'a>(
+    alloc: Global,
+    there: There<'_>,
+    words: &mut Reader<'a>,
+    pattern: &mut Pattern<'a>,
+) -> Result<(), QuestionFault>
+    ensures said { OnOk result (take_numbers (scene_of there.entry) 120
+        (fit_of pattern.old words.old) words.old
+        ≡ Some (fit_of pattern.new words.new)) }
+    ensures told { IfErr result (Refuses
+        (take_numbers (scene_of there.entry) 120 (fit_of pattern.old words.old) words.old)) }
+{
+    let mut room = MESSAGE_WORDS;
+    'numbers: while room > 0 && !pattern.ended && words.has_more() {
+        take(
+            alloc,
+            there,
+            Sort::Number(0, u64::MAX),
+            b"word",
+            words,
+            pattern,
+        )?;
+        room -= 1;
+    }
+    Ok(())
+}
+
+/// The last five bytes of a word.
+fn end_of(word: &[u8]) -> &[u8]
+    ensures { result.now ≡ end_of word.entry.now }
+{
+    &word[word.len().saturating_sub(5)..]
+}
+
+/// Whether a word is a queue of receivers, by its end.
+fn is_of_receivers(word: &[u8]) -> bool
+    ensures { result ≡ is_of_receivers word.now }
+{
+    is(end_of(word), b".recv")
+}
+
+/// Whether a word is a queue of other threads, by its end.
+fn is_of_others(word: &[u8]) -> bool
+    ensures { result ≡ is_of_others word.now }
+{
+    is(end_of(word), b".send") || is(end_of(word), b".wait")
+}
+
+/// Takes the reply object of a thread that joins a queue: only a receiver has one, or a dash.
+#[tactic(auto, unfolding(crate::specs::Forms::take_reply))]
+fn take_reply<'a>(
+    alloc: Global,
+    there: There<'_>,
+    words: &mut Reader<'a>,
+    pattern: &mut Pattern<'a>,
+) -> Result<(), QuestionFault>
+    ensures said { OnOk result (take_reply (scene_of there.entry) (fit_of pattern.old words.old)
+        ≡ Some (fit_of pattern.new words.new)) }
+    ensures told { IfErr result (Refuses (take_reply (scene_of there.entry)
+        (fit_of pattern.old words.old))) }
+{
+    let is_of_receivers = is_of_receivers(pattern.last);
+    if !is_of_receivers && (is_of_others(pattern.last) || !words.has_more()) {
+        return Ok(());
+    }
+    take(
+        alloc,
+        there,
+        Sort::Maybe(Kind::Reply),
+        b"reply",
+        words,
+        pattern,
+    )
+}
+
+/// Takes the words of this name, in a line of this first word.
+#[tactic(auto, unfolding(crate::specs::Forms::take_field))]
+fn take_field<'a>(
+    alloc: Global,
+    there: There<'_>,
+    first: &[u8],
+    name: &[u8],
+    words: &mut Reader<'a>,
+    pattern: &mut Pattern<'a>,
+) -> Result<(), QuestionFault>
+    ensures said { OnOk result (take_field (scene_of there.entry) first.now name.now
+        (fit_of pattern.old words.old)
+        ≡ Some (fit_of pattern.new words.new)) }
+    ensures told { IfErr result (Refuses (take_field (scene_of there.entry) first.now name.now
+        (fit_of pattern.old words.old))) }
+{
+    if is(name, b"words") {
+        return take_numbers(alloc, there, words, pattern);
+    }
+    if is(name, b"capability") {
+        return take_capability(alloc, there, words, pattern);
+    }
+    if is(name, b"reply") && is(first, b"joins") {
+        return take_reply(alloc, there, words, pattern);
+    }
+    take(alloc, there, sort_of(first, name), name, words, pattern)
+}
+
+/// Takes the words of all names that are left, in a line of this first word.
+fn take_fields<'a>(
+    alloc: Global,
+    there: There<'_>,
+    first: &[u8],
+    names: &mut Words<'_>,
+    words: &mut Reader<'a>,
+    pattern: &mut Pattern<'a>,
+) -> Result<(), QuestionFault>
+    ensures said { OnOk result (take_fields (scene_of there.entry) first.now names.old
+        (fit_of pattern.old words.old)
+        ≡ Some (fit_of pattern.new words.new)) }
+    ensures told { IfErr result (Refuses
+        (take_fields (scene_of there.entry) first.now names.old (fit_of pattern.old words.old))) }
+{
+    while let Some(name) = names.next_word() {
+        take_field(alloc, there, first, name, words, pattern)?;
+    }
+    Ok(())
+}
+
+/// The text of a pattern that was read, of which nothing is left, or a word for the rest. TooMany
+/// where another word is left.
+fn whole_of(
+    alloc: Global,
+    words: &mut Reader<'_>,
+    pattern: Pattern<'_>,
+) -> Result<Vec<u8>, QuestionFault>
+    ensures said { IfOk result (λ v. whole_of (fit_of pattern.entry words.old) ≡ Some v.items) }
+    ensures told { IfErr result (Refuses (whole_of (fit_of pattern.entry words.old))) }
+{
+    let Pattern { text, .. } = pattern;
+    match words.next() {
+        None => Ok(text),
+        Some(word) if is_rest(word) => Ok(with_rest(text, word)?),
+        Some(word) => Err(too_many(alloc, word)?),
+    }
+}
+
+/// A text with a word for the rest.
+fn with_rest(text: Vec<u8>, word: &[u8]) -> Result<Vec<u8>, AllocError>
+    ensures { IfOk result (λ v. v.items ≡ text.items ++ 32 ∷ word.now) }
+{
+    let mut whole = text;
+    whole.extend_from_slice(b" ")?;
+    whole.extend_from_slice(word)?;
+    Ok(whole)
+}
+
+/// The fault of a word behind the last.
+fn too_many(alloc: Global, word: &[u8]) -> Result<QuestionFault, AllocError>
+    ensures { IfOk result (λ e. is_of_memory e ≡ false) }
+{
+    Ok(QuestionFault::TooMany {
+        word: Word::new(alloc, word)?,
+    })
+}
+
+/// The names of the words of an answer after its first.
+#[tactic(auto, unfolding(crate::specs::Forms::answer_form))]
+fn answer_form(word: &[u8]) -> Option<&'static [u8]>
+    ensures { option_copied result ≡ answer_form word.now }
+{
+    if is(word, b"done") || is(word, b"empty") || is(word, b"waits") {
+        return Some(b"");
+    }
+    if is(word, b"got") {
+        return Some(b"badge label words");
+    }
+    if is(word, b"heard") {
+        return Some(b"word");
+    }
+    if is(word, b"refused") {
+        return Some(b"reason");
+    }
+    None
+}
+
+/// The names of the words of a record of an object, a slot or a thread.
+#[tactic(auto, unfolding(crate::specs::Forms::object_record))]
+fn object_record(word: &[u8]) -> Option<&'static [u8]>
+    ensures { option_copied result ≡ object_record word.now }
+{
+    if is(word, b"made") {
+        return Some(b"object");
+    }
+    if is(word, b"closed") {
+        return Some(b"object");
+    }
+    if is(word, b"slot") {
+        return Some(b"cnode index capability");
+    }
+    if is(word, b"prio") {
+        return Some(b"thread priority");
+    }
+    if is(word, b"turns") {
+        return Some(b"thread mode");
+    }
+    None
+}
+
+/// The names of the words of a record of a queue or a message.
+#[tactic(auto, unfolding(crate::specs::Forms::message_record))]
+fn message_record(word: &[u8]) -> Option<&'static [u8]>
+    ensures { option_copied result ≡ message_record word.now }
+{
+    if is(word, b"joins") {
+        return Some(b"thread queue reply");
+    }
+    if is(word, b"parts") {
+        return Some(b"thread queue");
+    }
+    if is(word, b"sent") {
+        return Some(b"message thread endpoint mode badge label words");
+    }
+    if is(word, b"took") {
+        return Some(b"message thread");
+    }
+    if is(word, b"dropped") {
+        return Some(b"message");
+    }
+    if is(word, b"owes") {
+        return Some(b"reply thread context");
+    }
+    None
+}
+
+/// The names of the words of a record of an answer, a context or a notification.
+#[tactic(auto, unfolding(crate::specs::Forms::other_record))]
+fn other_record(word: &[u8]) -> Option<&'static [u8]>
+    ensures { option_copied result ≡ other_record word.now }
+{
+    if is(word, b"paid") {
+        return Some(b"reply thread label words");
+    }
+    if is(word, b"void") {
+        return Some(b"reply thread ending");
+    }
+    if is(word, b"holds") {
+        return Some(b"context thread");
+    }
+    if is(word, b"raised") {
+        return Some(b"notification badge");
+    }
+    if is(word, b"heard") {
+        return Some(b"thread notification word");
+    }
+    if is(word, b"tied") {
+        return Some(b"thread notification");
+    }
+    if is(word, b"homed") {
+        return Some(b"context notification");
+    }
+    None
+}
+
+/// The names of the words of a record after its first.
+#[tactic(auto, unfolding(crate::specs::Forms::record_form))]
+fn record_form(word: &[u8]) -> Option<&'static [u8]>
+    ensures { option_copied result ≡ record_form word.now }
+{
+    if let Some(form) = object_record(word) {
+        return Some(form);
+    }
+    if let Some(form) = message_record(word) {
+        return Some(form);
+    }
+    other_record(word)
+}
+
+/// The names of the words of a line after its first.
+#[tactic(auto, unfolding(crate::specs::Forms::form_of))]
+fn form_of(lines: Lines, word: &[u8]) -> Option<&'static [u8]>
+    ensures { option_copied result ≡ form_of lines word.now }
+{
+    match lines {
+        Lines::Answers => answer_form(word),
+        Lines::Records => record_form(word),
+    }
 }
 
 /// The first words of lines.
-fn firsts_of(alloc: Global, lines: Lines) -> Result<Listed, QuestionFault> {
-    let mut told = Listed::new(alloc);
-    let mut forms = Forms::new();
-    for _ in 0..FORMS.len() {
-        match forms.next_key(lines.sign()) {
-            Some(key) => told.add(key)?,
-            None => break,
+fn firsts_of(lines: Lines) -> &'static [u8]
+    ensures { result.now ≡ firsts_of lines }
+{
+    match lines {
+        Lines::Answers => b"done got heard empty waits refused",
+        Lines::Records => {
+            b"made closed slot prio turns joins parts sent took dropped owes paid void holds raised heard tied homed"
         }
     }
-    Ok(told)
 }
 
-/// Returns the fault of a first word with which no line of this kind begins, with the words that
-/// do.
-fn no_line(alloc: Global, lines: Lines, first: &[u8]) -> Result<QuestionFault, QuestionFault> {
+/// What is read of a pattern before its second word.
+fn begun<'a>(alloc: Global, word: &'a [u8]) -> Result<Pattern<'a>, AllocError>
+    ensures { IfOk result (λ p. (words : List (List ℕ))
+        → fit_of p words ≡ begun word.entry.now words) }
+{
+    Ok(Pattern {
+        last: word,
+        text: Vec::from_slice(alloc, word)?,
+        ended: false,
+    })
+}
+
+/// Takes all words by a form, of lines with this first word.
+fn take_form<'a>(
+    alloc: Global,
+    there: There<'_>,
+    first: &[u8],
+    form: &[u8],
+    words: &mut Reader<'a>,
+    pattern: &mut Pattern<'a>,
+) -> Result<(), QuestionFault>
+    ensures said { OnOk result (take_fields (scene_of there.entry) first.now (names_in form.now)
+        (fit_of pattern.old words.old) ≡ Some (fit_of pattern.new words.new)) }
+    ensures told { IfErr result (Refuses (take_fields (scene_of there.entry) first.now
+        (names_in form.now)
+        (fit_of pattern.old words.old))) }
+{
+    if form.is_empty() {
+        return Ok(());
+    }
+    take_fields(alloc, there, first, &mut Words::new(form), words, pattern)
+}
+
+/// The text of a pattern by the form of lines with this first word, in whose place a word for any
+/// may be.
+#[tactic(auto, unfolding(crate::specs::Forms::fitted_by))]
+fn fitted_by<'x>(
+    alloc: Global,
+    there: There<'_>,
+    first: &[u8],
+    form: &[u8],
+    word: &'x [u8],
+    rest: &'x [&'x [u8]],
+) -> Result<Vec<u8>, QuestionFault>
+    ensures said { IfOk result (λ v. fitted_by (scene_of there.entry) first.now form.now
+        (begun word.entry.now (texts rest.entry.now)) ≡ Some v.items) }
+    ensures told { IfErr result (Refuses (fitted_by (scene_of there.entry) first.now form.now
+        (begun word.entry.now (texts rest.entry.now)))) }
+{
+    let mut pattern = begun(alloc, word)?;
+    let mut words = Reader::new(rest);
+    take_form(alloc, there, first, form, &mut words, &mut pattern)?;
+    whole_of(alloc, &mut words, pattern)
+}
+
+/// The fault of a first word with which no line of this kind begins.
+fn no_line(alloc: Global, lines: Lines, first: &[u8]) -> Result<QuestionFault, AllocError>
+    ensures { IfOk result (λ e. is_of_memory e ≡ false) }
+{
     let word = Word::new(alloc, first)?;
-    let there = firsts_of(alloc, lines)?;
+    let there = listed(alloc, lines)?;
     Ok(match lines {
         Lines::Answers => QuestionFault::NoAnswer { word, there },
         Lines::Records => QuestionFault::NoRecord { word, there },
     })
 }
 
-/// A pattern whose first word is any, by the first form that it fits. NoLine where it fits none.
-fn fitted_by_any(
+/// The first words of lines, as they are listed.
+fn listed(alloc: Global, lines: Lines) -> Result<Listed, AllocError> {
+    let mut told = Listed::new(alloc);
+    let mut firsts = Words::new(firsts_of(lines));
+    while let Some(first) = firsts.next_word() {
+        told.add(first)?;
+    }
+    Ok(told)
+}
+
+/// The text of a pattern that begins with a word, by the form of lines with this first word.
+#[tactic(auto, unfolding(crate::specs::Forms::fitted))]
+fn fitted(
     alloc: Global,
     there: There<'_>,
     lines: Lines,
-    words: &[&[u8]],
-) -> Result<Vec<u8>, QuestionFault> {
-    let mut forms = Forms::new();
-    for _ in 0..FORMS.len() {
-        let Some(first) = forms.next_key(lines.sign()) else {
-            break;
-        };
-        match fitted(alloc, there, lines, first, words) {
-            Ok(Some(text)) => return Ok(text),
-            Err(QuestionFault::OutOfMemory) => return Err(QuestionFault::OutOfMemory),
-            Ok(None) | Err(_) => {}
-        }
+    first: &[u8],
+    word: &[u8],
+    rest: &[&[u8]],
+) -> Result<Vec<u8>, QuestionFault>
+    ensures said { IfOk result (λ v. fitted (scene_of there.entry) lines first.now
+        (begun word.now (texts rest.entry.now)) ≡ Some v.items) }
+    ensures told { IfErr result (Refuses (fitted (scene_of there.entry) lines first.now
+        (begun word.now (texts rest.entry.now)))) }
+{
+    match form_of(lines, first) {
+        Some(form) => fitted_by(alloc, there, first, form, word, rest),
+        None => Err(no_line(alloc, lines, first)?),
     }
-    Err(QuestionFault::NoLine { count: words.len() })
 }
 
-/// Fails with BehindRest where a word follows the one for the rest.
-fn rest_is_last(alloc: Global, words: &[&[u8]]) -> Result<(), QuestionFault> {
-    let Some(place) = words.iter().position(|word| is_rest(*word)) else {
-        return Ok(());
-    };
-    match words.get(place.saturating_add(1)) {
+/// The text of a pattern whose first word is any, by the first form that it fits; None where it
+/// fits this one not.
+fn fitted_if(
+    alloc: Global,
+    there: There<'_>,
+    lines: Lines,
+    first: &[u8],
+    word: &[u8],
+    rest: &[&[u8]],
+) -> Result<Option<Vec<u8>>, AllocError>
+    ensures { IfOk result (λ o. option_map (λ v. v.items) o ≡ fitted
+        (scene_of there.entry) lines first.now
+        (begun word.now (texts rest.entry.now))) }
+{
+    match fitted(alloc, there, lines, first, word, rest) {
+        Ok(text) => Ok(Some(text)),
+        Err(QuestionFault::OutOfMemory) => Err(AllocError),
+        Err(_) => Ok(None),
+    }
+}
+
+/// The text of a pattern whose first word is any, by the first form that it fits. NoLine where it
+/// fits none.
+fn fitted_any(
+    alloc: Global,
+    there: There<'_>,
+    lines: Lines,
+    word: &[u8],
+    rest: &[&[u8]],
+) -> Result<Vec<u8>, QuestionFault>
+    ensures said { IfOk result (λ v. fitted_any (scene_of there.entry) lines (words_of
+        (firsts_of lines))
+        (begun word.now (texts rest.entry.now)) ≡ Some v.items) }
+    ensures told { IfErr result (Refuses (fitted_any (scene_of there.entry) lines (words_of
+        (firsts_of lines))
+        (begun word.now (texts rest.entry.now)))) }
+{
+    let mut firsts = Words::new(firsts_of(lines));
+    while let Some(first) = firsts.next_word() {
+        if let Some(text) = fitted_if(alloc, there, lines, first, word, rest)? {
+            return Ok(text);
+        }
+    }
+    Err(QuestionFault::NoLine {
+        count: rest.len().saturating_add(1),
+    })
+}
+
+/// Fails with BehindRest where a word is left.
+fn nothing_behind(alloc: Global, words: &mut Reader<'_>) -> Result<(), QuestionFault>
+    ensures said { OnOk result (has_words words.old ≡ false) }
+    ensures told { IfErr result (λ e. is_of_memory e ≡ false → has_words words.old ≡ true) }
+{
+    match words.next() {
         None => Ok(()),
         Some(word) => Err(QuestionFault::BehindRest {
-            word: Word::new(alloc, *word)?,
+            word: Word::new(alloc, word)?,
         }),
     }
 }
 
+/// Fails with BehindRest where a word follows the one for the rest.
+fn rest_is_last(alloc: Global, words: &[&[u8]]) -> Result<(), QuestionFault>
+    ensures said { OnOk result (is_rest_last (texts words.entry.now) ≡ true) }
+    ensures told { IfErr result (λ e.
+        is_of_memory e ≡ false → is_rest_last (texts words.entry.now) ≡ false) }
+{
+    let mut left = Reader::new(words);
+    while let Some(word) = left.next() {
+        if is_rest(word) {
+            return nothing_behind(alloc, &mut left);
+        }
+    }
+    Ok(())
+}
+
+/// The text of a pattern that begins with this word.
+#[tactic(auto, unfolding(crate::specs::Forms::pattern_by))]
+fn pattern_by(
+    alloc: Global,
+    there: There<'_>,
+    lines: Lines,
+    word: &[u8],
+    rest: &[&[u8]],
+) -> Result<Vec<u8>, QuestionFault>
+    ensures said { IfOk result (λ v. pattern_by (scene_of there.entry) lines word.now
+        (texts rest.entry.now)
+        ≡ Some v.items) }
+    ensures told { IfErr result (Refuses (pattern_by (scene_of there.entry) lines word.now
+        (texts rest.entry.now))) }
+{
+    if is_rest(word) {
+        return Ok(Vec::from_slice(alloc, word)?);
+    }
+    if is_any(word) {
+        return fitted_any(alloc, there, lines, word, rest);
+    }
+    fitted(alloc, there, lines, word, word, rest)
+}
+
 /// The pattern of these words for lines, without their sign, with ids in place of names. A fault
 /// where it can stand for no line.
+#[tactic(auto, unfolding(crate::specs::Forms::pattern_of))]
 pub fn pattern_of(
     alloc: Global,
     there: There<'_>,
     lines: Lines,
     words: &[&[u8]],
-) -> Result<Vec<u8>, QuestionFault> {
-    rest_is_last(alloc, words)?;
-    match words.first().copied() {
-        None => Err(QuestionFault::Missing {
+) -> Result<Vec<u8>, QuestionFault>
+    ensures said { IfOk result (λ p. pattern_of (scene_of there.entry) lines (texts words.entry.now)
+        ≡ Some p.items) }
+    ensures told { IfErr result (Refuses (pattern_of (scene_of there.entry) lines
+        (texts words.entry.now))) }
+{
+    let [word, rest @ ..] = words else {
+        return Err(QuestionFault::Missing {
             wanted: "a pattern",
-        }),
-        Some(first) if is_rest(first) => Ok(Vec::from_slice(alloc, first)?),
-        Some(first) if is_any(first) => fitted_by_any(alloc, there, lines, words),
-        Some(first) => match fitted(alloc, there, lines, first, words)? {
-            Some(text) => Ok(text),
-            None => Err(no_line(alloc, lines, first)?),
-        },
-    }
+        });
+    };
+    rest_is_last(alloc, words)?;
+    pattern_by(alloc, there, lines, *word, rest)
 }

@@ -2,7 +2,8 @@
 //! patterns by which they name answers and records.
 //!
 //! ```text
-//! `answer t1 2 got 9 *` ── reading ──> `Asked`, or a `QuestionFault` that names the word
+//! `answer t1 2 got 9 *` ── words ──> the words, one after another
+//!     ── reading ──> `Asked`, or a `QuestionFault` that names the word
 //!     ── there ──> threads, their entries, objects and their names: what a word may name
 //!     ── forms ──> whether a pattern can stand for a line of a trace
 //!     ── patterns ──> whether it stands for one
@@ -15,6 +16,7 @@ mod forms;
 mod patterns;
 mod reading;
 mod there;
+mod words;
 
 pub use asking::{Asked, Entries, Event, Span, Until};
 pub use fault::{ExploreFault, QuestionFault};

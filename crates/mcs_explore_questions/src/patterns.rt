@@ -5,7 +5,7 @@ ghost use Rattle.mcs_explore_questions.specs.Patterns.{is_match, is_rest, is_wor
 use mcs_text::Words;
 
 /// Whether a word of a pattern stands for the rest.
-fn is_rest(wanted: &[u8]) -> bool
+pub(crate) fn is_rest(wanted: &[u8]) -> bool
     ensures { result ≡ is_rest wanted.now }
 {
     wanted == b"**".as_slice()

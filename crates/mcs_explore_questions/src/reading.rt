@@ -1,14 +1,22 @@
 //! Reads the questions of a script.
+ghost use Rattle.std.specs.Prelude.{ℕ, ◌≡◌, ◌≢◌, ◌<◌, ◌≤◌, ◌∷◌, ◌++◌, [], false, true, Some, IfOk, IfErr, OnOk, OnErr, length, option_copied, option_map, bytes_eq};
+ghost use Rattle.mcs_text.specs.Reading.{words_of};
+ghost use Rattle.mcs_explore_questions.specs.Forms.{pattern_of};
+ghost use Rattle.mcs_explore_questions.specs.Questions.{AddsSpan, are_of_lists, answers_asked, behind_blank, last_of, answer_pattern, answer_then, answered_asked, and_span, apart_asked, asked_by, asks, again_asked, before_asked, begin_with_waits, bound_by, bounds_by, dots_len, entries_from, entries_of, entries_then, event_then, fits, has_dot, idle_asked, is_of_answers, is_of_list, lines_of, live_asked, never_asked, never_of, number_then, question_of, range_of, range_to, range_words, said_of, small_number, span_behind, span_from, span_of, span_then, spans_from, spans_of, user_is_program, user_then};
+ghost use Rattle.mcs_explore_questions.specs.Reading.{Refuses, is_of_memory, texts, word_then};
+ghost use Rattle.mcs_explore_questions.specs.There.{labelled, scene_of, user_of};
+
 use crate::asking::{Asked, Entries, Event, Span, Until};
 use crate::fault::QuestionFault;
 use crate::forms::{Lines, pattern_of};
-use crate::there::{There, id_text, no_entry};
+use crate::there::{There, id_text, list_of, no_entry};
+use crate::words::{Reader, trimmed, words_of};
 use mcs_explore_programs::Word;
 use mcs_lab_forms::number_of;
 use mcs_text::Words;
 use mcs_types::ObjId;
 use mcs_users::{UserList, Users};
-use std::alloc::Global;
+use std::alloc::{AllocError, Global};
 
 /// The words with which questions begin.
 const FIRSTS: &str = "idle, live, answer, answer?, some, never, before, again";
@@ -29,353 +37,682 @@ struct Ends<'a> {
     until: Until,
 }
 
-/// A question that is read word by word.
-#[derive(Drop)]
-struct Reader<'a> {
+/// The fault of a word that is not what is wanted.
+fn not(alloc: Global, word: &[u8], wanted: &'static str) -> Result<QuestionFault, AllocError>
+    ensures { IfOk result (λ e. is_of_memory e ≡ false) }
+{
+    Ok(QuestionFault::Not {
+        word: Word::new(alloc, word)?,
+        wanted,
+    })
+}
+
+/// The fault of a word that says no entry.
+fn empty(alloc: Global, word: &[u8]) -> Result<QuestionFault, AllocError>
+    ensures { IfOk result (λ e. is_of_memory e ≡ false) }
+{
+    Ok(QuestionFault::Empty {
+        word: Word::new(alloc, word)?,
+    })
+}
+
+/// Reads the user that the next word names.
+#[tactic(auto, unfolding(crate::specs::Questions::user_then))]
+fn user<'a>(
     alloc: Global,
     there: There<'a>,
-    words: Vec<&'a [u8]>,
-    taken: usize,
+    words: &mut Reader<'_>,
+) -> Result<&'a UserList, QuestionFault>
+    ensures said { IfOk result (λ l.
+        user_then (scene_of there.entry) words.old ≡ Some (l.now, words.new)) }
+    ensures told { IfErr result (Refuses (user_then (scene_of there.entry) words.old)) }
+    ensures shorter { OnOk result (length words.new < length words.old) }
+{
+    let word = words.need("a thread")?;
+    there.user(alloc, word)
 }
 
-/// A text without the blanks at its end.
-fn trimmed(text: &[u8]) -> &[u8] {
-    let mut rest = text;
-    for _ in 0..text.len() {
-        match rest {
-            [front @ .., b' ' | b'\t'] => rest = front,
-            _ => return rest,
-        }
-    }
-    rest
+/// Reads the entry that the next two words name.
+#[tactic(auto, unfolding(crate::specs::Questions::event_then))]
+fn event(alloc: Global, there: There<'_>, words: &mut Reader<'_>) -> Result<Event, QuestionFault>
+    ensures said { IfOk result (λ e.
+        event_then (scene_of there.entry) words.old ≡ Some (e, words.new)) }
+    ensures told { IfErr result (Refuses (event_then (scene_of there.entry) words.old)) }
+{
+    let list = user(alloc, there, words)?;
+    let word = words.need("the number of an entry, or its name")?;
+    there.entry(alloc, list, word)
 }
 
-/// The words of a text.
-fn words_of<'a>(alloc: Global, text: &'a [u8]) -> Result<Vec<&'a [u8]>, QuestionFault> {
-    let mut all = Vec::new(alloc);
-    let mut words = Words::new(text);
-    for _ in 0..=text.len() {
-        match words.next_word() {
-            Some(word) => all.push(word)?,
-            None => break,
+/// How many bytes are before the second of the first two dots that are together; all where there
+/// are none.
+fn dots_len(word: &[u8]) -> usize
+    ensures { result ≡ dots_len false word.now }
+{
+    let mut dotted = false;
+    for (place, byte) in word.iter().enumerate() {
+        if dotted && *byte == b'.' {
+            return place;
         }
+        dotted = *byte == b'.';
     }
-    Ok(all)
+    word.len()
 }
 
-impl<'a> Reader<'a> {
-    /// Takes the next word. Missing where none is left.
-    fn need(&mut self, wanted: &'static str) -> Result<&'a [u8], QuestionFault> {
-        let Some(word) = self.words.get(self.taken).copied() else {
-            return Err(QuestionFault::Missing { wanted });
-        };
-        self.taken = self.taken.saturating_add(1);
-        Ok(word)
-    }
-
-    /// The next word, which is left.
-    fn peek(&self) -> Option<&'a [u8]> {
-        self.words.get(self.taken).copied()
-    }
-
-    /// Takes this word. Missing where none is left, Other for another.
-    fn expect(&mut self, wanted: &'static str) -> Result<(), QuestionFault> {
-        let word = self.need(wanted)?;
-        if word == wanted.as_bytes() {
-            return Ok(());
-        }
-        Err(QuestionFault::Other {
-            word: Word::new(self.alloc, word)?,
-            wanted,
-        })
-    }
-
-    /// Fails with TooMany where a word is left.
-    fn end(&self) -> Result<(), QuestionFault> {
-        match self.peek() {
-            None => Ok(()),
-            Some(word) => Err(QuestionFault::TooMany {
-                word: Word::new(self.alloc, word)?,
-            }),
-        }
-    }
-
-    /// Reads the user that the next word names.
-    fn user(&mut self) -> Result<&'a UserList, QuestionFault> {
-        let word = self.need("a thread")?;
-        self.there.user(self.alloc, word)
-    }
-
-    /// Reads the entry that the next two words name.
-    fn event(&mut self) -> Result<Event, QuestionFault> {
-        let list = self.user()?;
-        let word = self.need("the number of an entry, or its name")?;
-        self.there.entry(self.alloc, list, word)
-    }
-
-    /// The number that a word of a range says: one of at most 9 digits, or that of an entry of a
-    /// user, by its name.
-    fn bound(&self, list: &UserList, word: &[u8]) -> Option<usize> {
-        match self.there.labelled(list, word) {
-            Some(Entries { first, last }) if first == last => Some(first),
-            Some(_) => None,
-            None => small_number(word),
-        }
-    }
-
-    /// The range of entries of a user that a word writes.
-    fn range_in(&self, list: &UserList, word: &[u8]) -> Option<Range> {
-        let Ends { from, to, until } = ends_of(word)?;
-        Some(Range {
-            from: self.bound(list, from)?,
-            to: self.bound(list, to)?,
-            until,
-        })
-    }
-
-    /// The range of entries of a user that a word writes. Not where it writes none.
-    fn range(
-        &self,
-        list: &UserList,
-        word: &[u8],
-        wanted: &'static str,
-    ) -> Result<Range, QuestionFault> {
-        match self.range_in(list, word) {
-            Some(range) => Ok(range),
-            None => Err(QuestionFault::Not {
-                word: Word::new(self.alloc, word)?,
-                wanted,
-            }),
-        }
-    }
-
-    /// Checks a range of entries: Empty where the first number, as a word writes it, is above the
-    /// last; NoEntry where the user has no such last entry.
-    fn expect_entries(
-        &self,
-        list: &UserList,
-        word: &[u8],
-        first: usize,
-        last: usize,
-    ) -> Result<(), QuestionFault> {
-        if last > list.entries.len() {
-            return Err(no_entry(self.alloc, list, word)?);
-        }
-        if first > last {
-            return Err(QuestionFault::Empty {
-                word: Word::new(self.alloc, word)?,
-            });
-        }
-        Ok(())
-    }
-
-    /// Reads the span that the next three words name: `t2 in 1..2`, or `t2 in NAME`.
-    fn span(&mut self) -> Result<Span, QuestionFault> {
-        let list = self.user()?;
-        self.expect("in")?;
-        let wanted = "a span, as 1..2 or 1..=2, or a name";
-        let word = self.need(wanted)?;
-        if let Some(Entries { first, last }) = self.there.labelled(list, word) {
-            return Ok(Span {
-                thread: list.thread,
-                from: first.saturating_sub(1),
-                to: last,
-                until: Until::Given,
-            });
-        }
-        let Range { from, to, until } = self.range(list, word, wanted)?;
-        self.expect_entries(list, word, from.saturating_add(1), to)?;
-        Ok(Span {
-            thread: list.thread,
+/// The ends of a range, of which the second begins behind the dots, or behind `=` there.
+fn range_to<'a>(from: &'a [u8], behind: &'a [u8]) -> Ends<'a>
+    ensures { range_words result ≡ range_to from.entry.now behind.entry.now }
+{
+    if let [b'=', to @ ..] = behind {
+        return Ends {
             from,
             to,
-            until,
-        })
-    }
-
-    /// Reads the spans that all words name, with `and` between them.
-    fn spans(&mut self) -> Result<Vec<Span>, QuestionFault> {
-        let mut spans = Vec::new(self.alloc);
-        for _ in 0..=self.words.len() {
-            spans.push(self.span()?)?;
-            if self.peek().is_none() {
-                break;
-            }
-            self.expect("and")?;
-        }
-        Ok(spans)
-    }
-
-    /// Reads all words that are left as a pattern.
-    fn pattern(&mut self, lines: Lines) -> Result<Vec<u8>, QuestionFault> {
-        let words = self.words.get(self.taken..).unwrap_or(&[]);
-        pattern_of(self.alloc, self.there, lines, words)
-    }
-
-    /// Reads all words that are left as the pattern of the answers of an entry. Waits where it is
-    /// the answer of one that waits.
-    fn answer(&mut self) -> Result<Vec<u8>, QuestionFault> {
-        if let Some(word) = self.peek()
-            && word == b"waits".as_slice()
-        {
-            return Err(QuestionFault::Waits {
-                word: Word::new(self.alloc, word)?,
-            });
-        }
-        self.pattern(Lines::Answers)
-    }
-
-    /// Reads what is never to be: a line of a pattern, or users in spans at once.
-    fn never(&mut self) -> Result<Asked, QuestionFault> {
-        let lines = match self.peek() {
-            Some(b"=") => Lines::Answers,
-            Some(b"+") => Lines::Records,
-            _ => {
-                let spans = self.spans()?;
-                return Ok(Asked::Apart { spans });
-            }
+            until: Until::Answered,
         };
-        let sign = self.need("a sign")?;
-        let mut pattern = Vec::from_slice(self.alloc, sign)?;
-        pattern.extend_from_slice(b" ")?;
-        pattern.extend_from_slice(self.pattern(lines)?.as_slice())?;
-        Ok(Asked::Never { pattern })
     }
-
-    /// Reads the question whose first word was taken.
-    fn asked(&mut self, first: &[u8]) -> Result<Asked, QuestionFault> {
-        match first {
-            b"idle" => self.idle(),
-            b"live" => self.live(),
-            b"answer" => Ok(Asked::Answer {
-                event: self.event()?,
-                pattern: self.answer()?,
-            }),
-            b"answer?" => Ok(Asked::AnswerIf {
-                event: self.event()?,
-                pattern: self.answer()?,
-            }),
-            b"some" => Ok(Asked::Some {
-                event: self.event()?,
-                pattern: self.answer()?,
-            }),
-            b"never" => self.never(),
-            b"before" => self.before(),
-            b"again" => self.again(),
-            _ => Err(QuestionFault::Unknown {
-                word: Word::new(self.alloc, first)?,
-                there: FIRSTS,
-            }),
-        }
-    }
-
-    /// Reads the entries that the next word names, as `2` or `1..=2`, or all where none is left.
-    fn entries(&mut self, list: &UserList) -> Result<Entries, QuestionFault> {
-        let Some(word) = self.peek() else {
-            let last = list.entries.len();
-            return Ok(Entries { first: 1, last });
-        };
-        self.taken = self.taken.saturating_add(1);
-        if let Some(entries) = self.there.labelled(list, word) {
-            return Ok(entries);
-        }
-        if !word.iter().any(|byte| *byte == b'.') {
-            return self.there.entries(self.alloc, list, word);
-        }
-        let Range { from, to, until } = self.range(list, word, "entries, as 2 or 1..=2")?;
-        if from == 0 {
-            return Err(no_entry(self.alloc, list, word)?);
-        }
-        let last = match until {
-            Until::Given => to.saturating_sub(1),
-            Until::Answered => to,
-        };
-        self.expect_entries(list, word, from, last)?;
-        Ok(Entries { first: from, last })
-    }
-
-    /// Reads the thread that may wait for ever.
-    fn idle(&mut self) -> Result<Asked, QuestionFault> {
-        let list = self.user()?;
-        let entries = self.entries(list)?;
-        self.end()?;
-        Ok(Asked::Idle {
-            thread: list.thread,
-            entries,
-        })
-    }
-
-    /// Reads the user that is never to be stuck, and the entry that this is asked of, if the line
-    /// names one.
-    fn live(&mut self) -> Result<Asked, QuestionFault> {
-        let list = self.user()?;
-        let number = match self.peek() {
-            Some(word) => Some(self.there.entry(self.alloc, list, word)?.number),
-            None => None,
-        };
-        self.taken = self.taken.saturating_add(usize::from(number.is_some()));
-        self.end()?;
-        Ok(Asked::Live {
-            thread: list.thread,
-            number,
-        })
-    }
-
-    /// Reads an entry that is given before another.
-    fn before(&mut self) -> Result<Asked, QuestionFault> {
-        let first = self.event()?;
-        let second = self.event()?;
-        self.end()?;
-        Ok(Asked::Before { first, second })
-    }
-
-    /// Reads the entry with which a list goes on after its last.
-    fn again(&mut self) -> Result<Asked, QuestionFault> {
-        let event = self.event()?;
-        self.end()?;
-        Ok(Asked::Again { event })
+    Ends {
+        from,
+        to: behind,
+        until: Until::Given,
     }
 }
 
 /// The words at the ends of a range: two dots stand between them, after which `=` may be.
-fn ends_of(word: &[u8]) -> Option<Ends<'_>> {
-    let dots = word.windows(2).position(|two| two == b"..".as_slice())?;
-    let from = word.get(..dots)?;
-    match word.get(dots..)? {
-        [_, _, b'=', to @ ..] => Some(Ends {
-            from,
-            to,
-            until: Until::Answered,
-        }),
-        [_, _, to @ ..] => Some(Ends {
-            from,
-            to,
-            until: Until::Given,
-        }),
-        _ => None,
+fn range_of(word: &[u8]) -> Option<Ends<'_>>
+    ensures { option_map range_words result ≡ range_of word.entry.now }
+{
+    let dots = dots_len(word);
+    if dots >= word.len() {
+        return None;
     }
+    Some(range_to(&word[..dots.saturating_sub(1)], &word[dots + 1..]))
 }
 
 /// The number that a word of at most 9 digits writes.
-fn small_number(word: &[u8]) -> Option<usize> {
+fn small_number(word: &[u8]) -> Option<usize>
+    ensures { result ≡ small_number word.now }
+{
     if word.len() > 9 {
         return None;
     }
     Some(number_of(word)? as usize)
 }
 
+/// The number that a word of a range says: one of at most 9 digits, or that of an entry of a
+/// user, by its name.
+fn bound(there: There<'_>, list: &UserList, word: &[u8]) -> Option<usize>
+    ensures { result ≡ bound_by (scene_of there.entry) list.now word.now }
+{
+    let Some(Entries { first, last }) = there.labelled(list, word) else {
+        return small_number(word);
+    };
+    if first == last { Some(first) } else { None }
+}
+
+/// The range of entries of a user that a word writes.
+#[tactic(auto, unfolding(crate::specs::Questions::bounds_by))]
+fn range_in(there: There<'_>, list: &UserList, word: &[u8]) -> Option<Range>
+    ensures { result ≡ bounds_by (scene_of there.entry) list.now word.now }
+{
+    let ends = range_of(word)?;
+    let from = bound(there, list, ends.from)?;
+    let to = bound(there, list, ends.to)?;
+    Some(Range {
+        from,
+        to,
+        until: ends.until,
+    })
+}
+
+/// The span from an entry of a user to another, as a word writes it. NoEntry where the user has no
+/// such last entry, Empty where that is not behind the first.
+fn span_from(
+    alloc: Global,
+    list: &UserList,
+    word: &[u8],
+    range: Range,
+) -> Result<Span, QuestionFault>
+    ensures said { IfOk result (λ s. span_from list.now range ≡ Some s) }
+    ensures told { IfErr result (Refuses (span_from list.now range)) }
+{
+    if range.to > list.entries.len() {
+        return Err(no_entry(alloc, list, word)?);
+    }
+    if range.from >= range.to {
+        return Err(empty(alloc, word)?);
+    }
+    Ok(Span {
+        thread: list.thread,
+        from: range.from,
+        to: range.to,
+        until: range.until,
+    })
+}
+
+/// The span of a user that a word says: a range, or the name of entries.
+fn span_of(
+    alloc: Global,
+    there: There<'_>,
+    list: &UserList,
+    word: &[u8],
+) -> Result<Span, QuestionFault>
+    ensures said { IfOk result (λ s. span_of (scene_of there.entry) list.now word.now
+        (labelled (scene_of there.entry) list.now word.now) ≡ Some s) }
+    ensures told { IfErr result (Refuses (span_of (scene_of there.entry) list.now word.now
+        (labelled (scene_of there.entry) list.now word.now))) }
+{
+    if let Some(Entries { first, last }) = there.labelled(list, word) {
+        return Ok(Span {
+            thread: list.thread,
+            from: first.saturating_sub(1),
+            to: last,
+            until: Until::Given,
+        });
+    }
+    match range_in(there, list, word) {
+        Some(range) => span_from(alloc, list, word, range),
+        None => Err(not(alloc, word, "a span, as 1..2 or 1..=2, or a name")?),
+    }
+}
+
+/// Reads the span of a user that the next two words name: `in 1..2`, or `in NAME`.
+#[tactic(auto, unfolding(crate::specs::Questions::span_behind))]
+fn span_behind(
+    alloc: Global,
+    there: There<'_>,
+    list: &UserList,
+    words: &mut Reader<'_>,
+) -> Result<Span, QuestionFault>
+    ensures said { IfOk result (λ s.
+        span_behind (scene_of there.entry) list.now words.old ≡ Some (s, words.new)) }
+    ensures told { IfErr result (Refuses
+        (span_behind (scene_of there.entry) list.now words.old)) }
+    ensures shorter { OnOk result (length words.new < length words.old) }
+{
+    words.expect(alloc, "in")?;
+    let word = words.need("a span, as 1..2 or 1..=2, or a name")?;
+    span_of(alloc, there, list, word)
+}
+
+/// Reads the span that the next three words name: `t2 in 1..2`, or `t2 in NAME`.
+#[tactic(auto, unfolding(crate::specs::Questions::span_then))]
+fn span(alloc: Global, there: There<'_>, words: &mut Reader<'_>) -> Result<Span, QuestionFault>
+    ensures said { IfOk result (λ s.
+        span_then (scene_of there.entry) words.old ≡ Some (s, words.new)) }
+    ensures told { IfErr result (Refuses (span_then (scene_of there.entry) words.old)) }
+    ensures shorter { OnOk result (length words.new < length words.old) }
+{
+    let list = user(alloc, there, words)?;
+    span_behind(alloc, there, list, words)
+}
+
+/// Reads `and` and a span.
+#[tactic(auto, unfolding(crate::specs::Questions::and_span))]
+fn and_span(alloc: Global, there: There<'_>, words: &mut Reader<'_>) -> Result<Span, QuestionFault>
+    ensures said { IfOk result (λ s.
+        and_span (scene_of there.entry) words.old ≡ Some (s, words.new)) }
+    ensures told { IfErr result (Refuses (and_span (scene_of there.entry) words.old)) }
+    ensures shorter { OnOk result (length words.new < length words.old) }
+{
+    words.expect(alloc, "and")?;
+    span(alloc, there, words)
+}
+
+/// Reads `and` and a span, and adds that to others.
+fn push_span(
+    alloc: Global,
+    there: There<'_>,
+    words: &mut Reader<'_>,
+    spans: &mut Vec<Span>,
+) -> Result<(), QuestionFault>
+    ensures said { OnOk result (AddsSpan (scene_of there.entry) words.old words.new
+        spans.old.items spans.new.items) }
+    ensures told { IfErr result (Refuses (and_span (scene_of there.entry) words.old)) }
+    ensures shorter { OnOk result (length words.new < length words.old) }
+{
+    let span = and_span(alloc, there, words)?;
+    spans.push(span)?;
+    Ok(())
+}
+
+/// Reads the spans that all words name, each behind `and`, and adds them to others.
+fn push_spans(
+    alloc: Global,
+    there: There<'_>,
+    words: &mut Reader<'_>,
+    spans: &mut Vec<Span>,
+) -> Result<(), QuestionFault>
+    ensures said { OnOk result (spans_from (length words.old) (scene_of there.entry)
+        spans.old.items words.old ≡ Some spans.new.items) }
+    ensures told { IfErr result (Refuses (spans_from (length words.old) (scene_of there.entry)
+        spans.old.items words.old)) }
+{
+    'turns: while words.has_more() {
+        push_span(alloc, there, words, spans)?;
+    }
+    Ok(())
+}
+
+/// Reads the users in spans that a first word and all others name.
+#[tactic(auto, unfolding(crate::specs::Questions::apart_asked, crate::specs::Questions::spans_of, crate::specs::Questions::span_then, crate::specs::Questions::user_then))]
+fn apart(
+    alloc: Global,
+    there: There<'_>,
+    first: &[u8],
+    words: &mut Reader<'_>,
+) -> Result<Asked, QuestionFault>
+    ensures said { IfOk result (λ a. apart_asked (scene_of there.entry) (first.now ∷ words.old)
+        ≡ Some (said_of a)) }
+    ensures told { IfErr result (Refuses
+        (apart_asked (scene_of there.entry) (first.now ∷ words.old))) }
+{
+    let list = there.user(alloc, first)?;
+    let span = span_behind(alloc, there, list, words)?;
+    let mut spans = one_span(alloc, span)?;
+    push_spans(alloc, there, words, &mut spans)?;
+    Ok(Asked::Apart { spans })
+}
+
+/// One span.
+fn one_span(alloc: Global, span: Span) -> Result<Vec<Span>, AllocError>
+    ensures { IfOk result (λ spans. spans.items ≡ span ∷ []) }
+{
+    let mut spans = Vec::new(alloc);
+    spans.push(span)?;
+    Ok(spans)
+}
+
+/// Of which lines a pattern is, by the word with which it begins.
+fn lines_of(word: &[u8]) -> Option<Lines>
+    ensures { result ≡ lines_of word.now }
+{
+    if word == b"=".as_slice() {
+        return Some(Lines::Answers);
+    }
+    if word == b"+".as_slice() {
+        return Some(Lines::Records);
+    }
+    None
+}
+
+/// A text behind a sign and a blank.
+fn signed(alloc: Global, sign: &[u8], text: Vec<u8>) -> Result<Vec<u8>, AllocError>
+    ensures { IfOk result (λ v. v.items ≡ sign.now ++ 32 ∷ text.items) }
+{
+    let mut whole = Vec::from_slice(alloc, sign)?;
+    whole.extend_from_slice(b" ")?;
+    whole.extend_from_slice(text.as_slice())?;
+    Ok(whole)
+}
+
+/// Reads a line of a pattern, behind its sign.
+#[tactic(auto, unfolding(crate::specs::Questions::never_of))]
+fn never_of(
+    alloc: Global,
+    there: There<'_>,
+    sign: &[u8],
+    words: &[&[u8]],
+    lines: Lines,
+) -> Result<Asked, QuestionFault>
+    ensures said { IfOk result (λ a. never_of (scene_of there.entry) sign.now
+        (texts words.entry.now) lines ≡ Some (said_of a)) }
+    ensures told { IfErr result (Refuses (never_of (scene_of there.entry) sign.now
+        (texts words.entry.now) lines)) }
+{
+    let text = pattern_of(alloc, there, lines, words)?;
+    let pattern = signed(alloc, sign, text)?;
+    Ok(Asked::Never { pattern })
+}
+
+/// Reads what is never to be: a line of a pattern, or users in spans at once.
+#[tactic(auto, unfolding(crate::specs::Questions::never_asked))]
+fn never(alloc: Global, there: There<'_>, words: &mut Reader<'_>) -> Result<Asked, QuestionFault>
+    ensures said { IfOk result (λ a. never_asked (scene_of there.entry) words.old
+        ≡ Some (said_of a)) }
+    ensures told { IfErr result (Refuses (never_asked (scene_of there.entry) words.old)) }
+{
+    let word = words.need("a thread")?;
+    match lines_of(word) {
+        Some(lines) => never_of(alloc, there, word, words.left(), lines),
+        None => apart(alloc, there, word, words),
+    }
+}
+
+/// Whether a byte of a word is a dot.
+fn has_dot(word: &[u8]) -> bool
+    ensures { result ≡ has_dot word.now }
+{
+    for byte in word {
+        if *byte == b'.' {
+            return true;
+        }
+    }
+    false
+}
+
+/// The last entry of a range.
+fn last_of(range: Range) -> usize
+    ensures { result ≡ last_of range }
+{
+    match range.until {
+        Until::Given => range.to.saturating_sub(1),
+        Until::Answered => range.to,
+    }
+}
+
+/// The entries of a user that are in a range, as a word writes it. NoEntry where the user has not
+/// all of them, Empty where there is none.
+fn entries_from(
+    alloc: Global,
+    list: &UserList,
+    word: &[u8],
+    range: Range,
+) -> Result<Entries, QuestionFault>
+    ensures said { IfOk result (λ es. entries_from list.now range ≡ Some es) }
+    ensures told { IfErr result (Refuses (entries_from list.now range)) }
+{
+    let last = last_of(range);
+    if range.from == 0 || last > list.entries.len() {
+        return Err(no_entry(alloc, list, word)?);
+    }
+    if range.from > last {
+        return Err(empty(alloc, word)?);
+    }
+    Ok(Entries {
+        first: range.from,
+        last,
+    })
+}
+
+/// The entries of a user that a word names, as `2`, `1..=2` or a name.
+fn entries_of(
+    alloc: Global,
+    there: There<'_>,
+    list: &UserList,
+    word: &[u8],
+) -> Result<Entries, QuestionFault>
+    ensures said { IfOk result (λ es. entries_of (scene_of there.entry) list.now word.now
+        (labelled (scene_of there.entry) list.now word.now) ≡ Some es) }
+    ensures told { IfErr result (Refuses (entries_of (scene_of there.entry) list.now word.now
+        (labelled (scene_of there.entry) list.now word.now))) }
+{
+    if let Some(entries) = there.labelled(list, word) {
+        return Ok(entries);
+    }
+    if !has_dot(word) {
+        return there.entries(alloc, list, word);
+    }
+    match range_in(there, list, word) {
+        Some(range) => entries_from(alloc, list, word, range),
+        None => Err(not(alloc, word, "entries, as 2 or 1..=2")?),
+    }
+}
+
+/// Reads the entries that the next word names, or all where none is left.
+#[tactic(auto, unfolding(crate::specs::Questions::entries_then))]
+fn entries(
+    alloc: Global,
+    there: There<'_>,
+    list: &UserList,
+    words: &mut Reader<'_>,
+) -> Result<Entries, QuestionFault>
+    ensures said { IfOk result (λ es.
+        entries_then (scene_of there.entry) list.now words.old ≡ Some (es, words.new)) }
+    ensures told { IfErr result (Refuses
+        (entries_then (scene_of there.entry) list.now words.old)) }
+{
+    let Some(word) = words.next() else {
+        let last = list.entries.len();
+        return Ok(Entries { first: 1, last });
+    };
+    entries_of(alloc, there, list, word)
+}
+
+/// Reads the thread that may wait for ever.
+#[tactic(auto, unfolding(crate::specs::Questions::idle_asked))]
+fn idle(alloc: Global, there: There<'_>, words: &mut Reader<'_>) -> Result<Asked, QuestionFault>
+    ensures said { IfOk result (λ a. idle_asked (scene_of there.entry) words.old
+        ≡ Some (said_of a)) }
+    ensures told { IfErr result (Refuses (idle_asked (scene_of there.entry) words.old)) }
+{
+    let list = user(alloc, there, words)?;
+    let entries = entries(alloc, there, list, words)?;
+    words.end(alloc)?;
+    Ok(Asked::Idle {
+        thread: list.thread,
+        entries,
+    })
+}
+
+/// Reads the number of the entry that the next word names, if there is one.
+#[tactic(auto, unfolding(crate::specs::Questions::number_then))]
+fn number(
+    alloc: Global,
+    there: There<'_>,
+    list: &UserList,
+    words: &mut Reader<'_>,
+) -> Result<Option<usize>, QuestionFault>
+    ensures said { IfOk result (λ n.
+        number_then (scene_of there.entry) list.now words.old ≡ Some (n, words.new)) }
+    ensures told { IfErr result (Refuses
+        (number_then (scene_of there.entry) list.now words.old)) }
+{
+    let Some(word) = words.next() else {
+        return Ok(None);
+    };
+    let event = there.entry(alloc, list, word)?;
+    Ok(Some(event.number))
+}
+
+/// Reads the user that is never to be stuck, and the entry that this is asked of, if the line
+/// names one.
+#[tactic(auto, unfolding(crate::specs::Questions::live_asked))]
+fn live(alloc: Global, there: There<'_>, words: &mut Reader<'_>) -> Result<Asked, QuestionFault>
+    ensures said { IfOk result (λ a. live_asked (scene_of there.entry) words.old
+        ≡ Some (said_of a)) }
+    ensures told { IfErr result (Refuses (live_asked (scene_of there.entry) words.old)) }
+{
+    let list = user(alloc, there, words)?;
+    let number = number(alloc, there, list, words)?;
+    words.end(alloc)?;
+    Ok(Asked::Live {
+        thread: list.thread,
+        number,
+    })
+}
+
+/// Whether the first word is the answer of an entry that waits.
+fn begin_with_waits(words: &[&[u8]]) -> bool
+    ensures { result ≡ begin_with_waits (texts words.entry.now) }
+{
+    match words {
+        [word, ..] => *word == b"waits".as_slice(),
+        [] => false,
+    }
+}
+
+/// Reads words as the pattern of the answers of an entry. Waits where it is the answer of one that
+/// waits.
+#[tactic(auto, unfolding(crate::specs::Questions::answer_pattern))]
+fn answer(alloc: Global, there: There<'_>, words: &[&[u8]]) -> Result<Vec<u8>, QuestionFault>
+    ensures said { IfOk result (λ p.
+        answer_pattern (scene_of there.entry) (texts words.entry.now) ≡ Some p.items) }
+    ensures told { IfErr result (Refuses
+        (answer_pattern (scene_of there.entry) (texts words.entry.now))) }
+{
+    if begin_with_waits(words) {
+        return Err(QuestionFault::Waits {
+            word: Word::new(alloc, b"waits")?,
+        });
+    }
+    pattern_of(alloc, there, Lines::Answers, words)
+}
+
+/// Reads an entry and the pattern of its answers.
+#[tactic(auto, unfolding(crate::specs::Questions::answer_then))]
+fn event_answer(
+    alloc: Global,
+    there: There<'_>,
+    words: &mut Reader<'_>,
+) -> Result<(Event, Vec<u8>), QuestionFault>
+    ensures said { IfOk result (λ r. answer_then (scene_of there.entry) words.old
+        ≡ Some (record { event = r.0; pattern = r.1.items })) }
+    ensures told { IfErr result (Refuses (answer_then (scene_of there.entry) words.old)) }
+{
+    let event = event(alloc, there, words)?;
+    let pattern = answer(alloc, there, words.left())?;
+    Ok((event, pattern))
+}
+
+/// What a first word asks of the answers of an entry.
+fn answered_asked(first: &[u8], event: Event, pattern: Vec<u8>) -> Asked
+    ensures { said_of result
+        ≡ answered_asked first.now (record { event = event; pattern = pattern.items }) }
+{
+    if first == b"answer".as_slice() {
+        return Asked::Answer { event, pattern };
+    }
+    if first == b"answer?".as_slice() {
+        return Asked::AnswerIf { event, pattern };
+    }
+    Asked::Some { event, pattern }
+}
+
+/// Whether a first word asks something of the answers of an entry.
+fn is_of_answers(first: &[u8]) -> bool
+    ensures { result ≡ is_of_answers first.now }
+{
+    first == b"answer".as_slice() || first == b"answer?".as_slice() || first == b"some".as_slice()
+}
+
+/// Reads what a first word asks of the answers of an entry.
+#[tactic(auto, unfolding(crate::specs::Questions::answers_asked))]
+fn of_answers(
+    alloc: Global,
+    there: There<'_>,
+    first: &[u8],
+    words: &mut Reader<'_>,
+) -> Result<Asked, QuestionFault>
+    ensures said { IfOk result (λ a. answers_asked (scene_of there.entry) first.now words.old
+        ≡ Some (said_of a)) }
+    ensures told { IfErr result (Refuses
+        (answers_asked (scene_of there.entry) first.now words.old)) }
+{
+    let (event, pattern) = event_answer(alloc, there, words)?;
+    Ok(answered_asked(first, event, pattern))
+}
+
+/// Reads an entry that is given before another.
+#[tactic(auto, unfolding(crate::specs::Questions::before_asked))]
+fn before(alloc: Global, there: There<'_>, words: &mut Reader<'_>) -> Result<Asked, QuestionFault>
+    ensures said { IfOk result (λ a. before_asked (scene_of there.entry) words.old
+        ≡ Some (said_of a)) }
+    ensures told { IfErr result (Refuses (before_asked (scene_of there.entry) words.old)) }
+{
+    let first = event(alloc, there, words)?;
+    let second = event(alloc, there, words)?;
+    words.end(alloc)?;
+    Ok(Asked::Before { first, second })
+}
+
+/// Reads the entry with which a list goes on after its last.
+#[tactic(auto, unfolding(crate::specs::Questions::again_asked))]
+fn again(alloc: Global, there: There<'_>, words: &mut Reader<'_>) -> Result<Asked, QuestionFault>
+    ensures said { IfOk result (λ a. again_asked (scene_of there.entry) words.old
+        ≡ Some (said_of a)) }
+    ensures told { IfErr result (Refuses (again_asked (scene_of there.entry) words.old)) }
+{
+    let event = event(alloc, there, words)?;
+    words.end(alloc)?;
+    Ok(Asked::Again { event })
+}
+
+/// The fault of a word with which no question begins.
+fn unknown(alloc: Global, word: &[u8]) -> Result<QuestionFault, AllocError>
+    ensures { IfOk result (λ e. is_of_memory e ≡ false) }
+{
+    Ok(QuestionFault::Unknown {
+        word: Word::new(alloc, word)?,
+        there: FIRSTS,
+    })
+}
+
+/// Whether a word is this one.
+fn is(word: &[u8], text: &[u8]) -> bool
+    ensures { result ≡ bytes_eq word.now text.now }
+{
+    word == text
+}
+
+/// Reads the question whose first word was taken.
+#[tactic(auto, unfolding(crate::specs::Questions::asked_by))]
+fn asked(
+    alloc: Global,
+    there: There<'_>,
+    first: &[u8],
+    words: &mut Reader<'_>,
+) -> Result<Asked, QuestionFault>
+    ensures said { IfOk result (λ a. asked_by (scene_of there.entry) first.now words.old
+        ≡ Some (said_of a)) }
+    ensures told { IfErr result (Refuses
+        (asked_by (scene_of there.entry) first.now words.old)) }
+{
+    if is(first, b"idle") {
+        return idle(alloc, there, words);
+    }
+    if is(first, b"live") {
+        return live(alloc, there, words);
+    }
+    if is_of_answers(first) {
+        return of_answers(alloc, there, first, words);
+    }
+    if is(first, b"never") {
+        return never(alloc, there, words);
+    }
+    if is(first, b"before") {
+        return before(alloc, there, words);
+    }
+    if is(first, b"again") {
+        return again(alloc, there, words);
+    }
+    Err(unknown(alloc, first)?)
+}
+
+/// The text behind the blank with which it begins.
+fn behind_blank(text: &[u8]) -> Option<&[u8]>
+    ensures { option_copied result ≡ behind_blank text.entry.now }
+{
+    match text {
+        [b' ', rest @ ..] => Some(rest),
+        _ => None,
+    }
+}
+
+/// Why a text behind `#!` is none behind a blank.
+fn no_blank(alloc: Global, text: &[u8]) -> Result<QuestionFault, AllocError>
+    ensures { IfOk result (λ e. is_of_memory e ≡ false) }
+{
+    if text.is_empty() {
+        return Ok(QuestionFault::Nothing { there: FIRSTS });
+    }
+    Ok(QuestionFault::NoBlank {
+        word: Word::new(alloc, first_word(text))?,
+    })
+}
+
 /// The text of the question of a line `#!`, without its newline: what follows the blank, without
 /// blanks at its end. NoBlank where no blank is there, Nothing where no text does.
-pub fn question_of(alloc: Global, line: &[u8]) -> Result<&[u8], QuestionFault> {
+pub fn question_of(alloc: Global, line: &[u8]) -> Result<&[u8], QuestionFault>
+    ensures said { IfOk result (λ text. question_of line.entry.now ≡ Some text.now) }
+    ensures told { IfErr result (Refuses (question_of line.entry.now)) }
+{
     let [_, _, behind @ ..] = line else {
         return Err(QuestionFault::Nothing { there: FIRSTS });
     };
-    match trimmed(behind) {
-        [] => Err(QuestionFault::Nothing { there: FIRSTS }),
-        [b' ', text @ ..] => Ok(text),
-        text => Err(QuestionFault::NoBlank {
-            word: Word::new(alloc, first_word(text))?,
-        }),
+    let text = trimmed(behind);
+    match behind_blank(text) {
+        Some(question) => Ok(question),
+        None => Err(no_blank(alloc, text)?),
     }
 }
 
@@ -387,24 +724,34 @@ fn first_word(text: &[u8]) -> &[u8] {
     }
 }
 
-/// Reads the question of a text. A fault where it has no form of them, or names what is not there.
-pub fn asked_of(alloc: Global, there: There<'_>, text: &[u8]) -> Result<Asked, QuestionFault> {
-    let mut reader = Reader {
-        alloc,
-        there,
-        words: words_of(alloc, text)?,
-        taken: 0,
-    };
-    let first = reader.need("a question")?;
-    let asked = reader.asked(first)?;
+/// Reads what words ask of what is there.
+#[tactic(auto, unfolding(crate::specs::Questions::asks))]
+fn asked_in(alloc: Global, there: There<'_>, words: &mut Reader<'_>) -> Result<Asked, QuestionFault>
+    ensures said { IfOk result (λ a. asks (scene_of there.entry) words.old ≡ Some (said_of a)) }
+    ensures told { IfErr result (Refuses (asks (scene_of there.entry) words.old)) }
+{
+    let first = words.need("a question")?;
+    let asked = asked(alloc, there, first, words)?;
     fits_programs(alloc, there.users, &asked)?;
     Ok(asked)
 }
 
+/// Reads the question of a text. A fault where it has no form of them, or names what is not there.
+pub fn asked_of(alloc: Global, there: There<'_>, text: &[u8]) -> Result<Asked, QuestionFault>
+    ensures said { IfOk result (λ a.
+        asks (scene_of there.entry) (words_of text.now) ≡ Some (said_of a)) }
+    ensures told { IfErr result (Refuses (asks (scene_of there.entry) (words_of text.now))) }
+{
+    let words = words_of(alloc, text)?;
+    asked_in(alloc, there, &mut Reader::new(words.as_slice()))
+}
+
 /// Whether the user of a thread has a program.
-fn has_program(users: &Users, thread: ObjId) -> bool {
-    match users.find(thread) {
-        Some(place) => users.at(place).is_some_and(|list| list.has_program()),
+fn has_program(users: &Users, thread: ObjId) -> bool
+    ensures { result ≡ user_is_program (user_of users.now thread) }
+{
+    match list_of(users, thread) {
+        Some(list) => list.has_program(),
         None => false,
     }
 }
@@ -415,7 +762,10 @@ fn is_of_list(
     users: &Users,
     event: Event,
     instead: &'static str,
-) -> Result<(), QuestionFault> {
+) -> Result<(), QuestionFault>
+    ensures said { OnOk result (is_of_list users.now event ≡ true) }
+    ensures told { IfErr result (λ e. is_of_memory e ≡ false → is_of_list users.now event ≡ false) }
+{
     if !has_program(users, event.thread) {
         return Ok(());
     }
@@ -426,27 +776,51 @@ fn is_of_list(
     })
 }
 
+/// Fails with AgainProgram where the user of a thread has a program, and goes on by that.
+fn goes_on_again(alloc: Global, users: &Users, event: Event) -> Result<(), QuestionFault>
+    ensures said { OnOk result (is_of_list users.now event ≡ true) }
+    ensures told { IfErr result (λ e. is_of_memory e ≡ false → is_of_list users.now event ≡ false) }
+{
+    if !has_program(users, event.thread) {
+        return Ok(());
+    }
+    Err(QuestionFault::AgainProgram {
+        thread: id_text(alloc, event.thread)?,
+    })
+}
+
+/// Fails with OfProgram where one of two entries is one of a program.
+fn are_of_lists(
+    alloc: Global,
+    users: &Users,
+    first: Event,
+    second: Event,
+) -> Result<(), QuestionFault>
+    ensures said { OnOk result (are_of_lists users.now first second ≡ true) }
+    ensures told { IfErr result (λ e.
+        is_of_memory e ≡ false → are_of_lists users.now first second ≡ false) }
+{
+    is_of_list(alloc, users, first, "never")?;
+    is_of_list(alloc, users, second, "never")
+}
+
 /// Fails where a question is about a program, of which a state does not say whether it came to an
 /// entry before: with AgainProgram where it lets that go on again, and else with OfProgram.
-fn fits_programs(alloc: Global, users: &Users, asked: &Asked) -> Result<(), QuestionFault> {
+fn fits_programs(alloc: Global, users: &Users, asked: &Asked) -> Result<(), QuestionFault>
+    ensures said { OnOk result (fits users.now (said_of asked.now) ≡ true) }
+    ensures told { IfErr result (λ e.
+        is_of_memory e ≡ false → fits users.now (said_of asked.now) ≡ false) }
+{
     match asked {
-        Asked::Again { event } if has_program(users, event.thread) => {
-            Err(QuestionFault::AgainProgram {
-                thread: id_text(alloc, event.thread)?,
-            })
-        }
-        Asked::Before { first, second } => {
-            is_of_list(alloc, users, *first, "never")?;
-            is_of_list(alloc, users, *second, "never")
-        }
+        Asked::Again { event } => goes_on_again(alloc, users, *event),
+        Asked::Before { first, second } => are_of_lists(alloc, users, *first, *second),
         Asked::Answer { event, .. } => is_of_list(alloc, users, *event, "answer?"),
         Asked::Idle { .. }
         | Asked::Live { .. }
         | Asked::AnswerIf { .. }
         | Asked::Some { .. }
         | Asked::Never { .. }
-        | Asked::Apart { .. }
-        | Asked::Again { .. } => Ok(()),
+        | Asked::Apart { .. } => Ok(()),
     }
 }
 
@@ -454,7 +828,6 @@ fn fits_programs(alloc: Global, users: &Users, asked: &Asked) -> Result<(), Ques
 fn again_of(users: &Users, thread: ObjId) -> Option<usize> {
     users.at(users.find(thread)?)?.again
 }
-
 /// Fails with AgainTwice where a question lets a list go on again that does already.
 pub fn goes_on_once(alloc: Global, users: &Users, asked: &Asked) -> Result<(), QuestionFault> {
     match asked {

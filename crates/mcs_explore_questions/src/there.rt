@@ -1,8 +1,14 @@
 //! What a word of a question may name: threads, their entries, objects and their names.
+ghost use Rattle.std.specs.Prelude.{◌≡◌, false, true, Some, OnOk, IfOk, IfErr, option_copied, string_bytes};
+ghost use Rattle.std.specs.List.{find};
+ghost use Rattle.mcs_text.specs.Spelling.{name_text};
+ghost use Rattle.mcs_explore_questions.specs.Reading.{Refuses, is_of_memory};
+ghost use Rattle.mcs_explore_questions.specs.There.{can_be, is_made_later, made, makes, makes_objects, user_makes_object, entries_by, entry_at, entry_by, event_of, is_label, labelled, named_by, numbered, object_by, scene_of, user_by, user_of};
+
 use crate::asking::{Entries, Event};
 use crate::fault::QuestionFault;
 use mcs_explore_programs::{Label, Listed, ProgramFault, Word};
-use mcs_lab_check::{Named, Names, object_of, queue_of};
+use mcs_lab_check::{Named, Names, object_of};
 use mcs_lab_forms::number_of;
 use mcs_text::letter;
 use mcs_types::{BootLine, Kind, ObjId};
@@ -19,21 +25,25 @@ pub struct There<'a> {
     pub labels: &'a [Label],
 }
 
-/// The kind of the object that a line of the boot makes, if it makes one.
-fn kind_of(line: &BootLine) -> Option<Kind> {
+/// Whether a line of the boot makes an object of a kind.
+fn makes(kind: Kind, line: &BootLine) -> bool
+    ensures { result ≡ makes kind line.now }
+{
     match line {
-        BootLine::CNode { .. } => Some(Kind::CNode),
-        BootLine::Endpoint => Some(Kind::Endpoint),
-        BootLine::Notification => Some(Kind::Notification),
-        BootLine::Reply => Some(Kind::Reply),
-        BootLine::Context { .. } => Some(Kind::Context),
-        BootLine::Thread { .. } => Some(Kind::Thread),
-        BootLine::Slot { .. } | BootLine::Tie { .. } => None,
+        BootLine::CNode { .. } => Kind::CNode.is_same(kind),
+        BootLine::Endpoint => Kind::Endpoint.is_same(kind),
+        BootLine::Notification => Kind::Notification.is_same(kind),
+        BootLine::Reply => Kind::Reply.is_same(kind),
+        BootLine::Context { .. } => Kind::Context.is_same(kind),
+        BootLine::Thread { .. } => Kind::Thread.is_same(kind),
+        BootLine::Slot { .. } | BootLine::Tie { .. } => false,
     }
 }
 
 /// Whether objects of a kind can be made after the boot.
-fn is_made_later(kind: Kind) -> bool {
+fn is_made_later(kind: Kind) -> bool
+    ensures { result ≡ is_made_later kind }
+{
     match kind {
         Kind::CNode | Kind::Thread => false,
         Kind::Endpoint | Kind::Notification | Kind::Reply | Kind::Context => true,
@@ -41,15 +51,36 @@ fn is_made_later(kind: Kind) -> bool {
 }
 
 /// The id of an object as traces have it.
-pub fn id_text(alloc: Global, object: ObjId) -> Result<String, AllocError> {
-    let kind = char::from(letter(object.kind));
+pub fn id_text(alloc: Global, object: ObjId) -> Result<String, AllocError>
+    ensures { IfOk result (λ text. string_bytes text ≡ name_text object) }
+{
     let serial = object.serial;
-    format!(in alloc; "{kind}{serial}")
+    let mut text = String::new(alloc);
+    text.push(letter(object.kind) as char)?;
+    let digits = format!(in alloc; "{serial}")?;
+    text.push_str(digits.as_str())?;
+    Ok(text)
+}
+
+/// The list of the user of a thread, if it has one.
+pub(crate) fn list_of(users: &Users, thread: ObjId) -> Option<&UserList>
+    ensures { option_copied result ≡ user_of users.now thread }
+{
+    users.at(users.find(thread)?)
+}
+
+/// Whether a user has an entry that makes an object.
+fn user_makes_object(list: &UserList) -> bool
+    ensures { result ≡ user_makes_object list.now }
+{
+    list.entries.iter().any(|entry| entry.makes_object())
 }
 
 impl<'a> There<'a> {
     /// What a word names: an object, by its id or by a name that the script gives it.
-    fn named(&self, word: &[u8]) -> Named {
+    fn named(&self, word: &[u8]) -> Named
+        ensures { result ≡ named_by (scene_of self.now) word.now }
+    {
         match object_of(word) {
             Some(object) => Named::One(object),
             None => self.names.find(word),
@@ -57,7 +88,10 @@ impl<'a> There<'a> {
     }
 
     /// The object that a word names. Several where two have the name.
-    pub fn object(&self, alloc: Global, word: &[u8]) -> Result<Option<ObjId>, QuestionFault> {
+    pub fn object(&self, alloc: Global, word: &[u8]) -> Result<Option<ObjId>, QuestionFault>
+        ensures said { IfOk result (λ o. object_by (scene_of self.now) word.now ≡ Some o) }
+        ensures told { IfErr result (Refuses (object_by (scene_of self.now) word.now)) }
+    {
         match self.named(word) {
             Named::Nothing => Ok(None),
             Named::One(object) => Ok(Some(object)),
@@ -67,50 +101,37 @@ impl<'a> There<'a> {
         }
     }
 
-    /// The object and the ending of a queue that a word names.
-    pub fn queue<'w>(
-        &self,
-        alloc: Global,
-        word: &'w [u8],
-    ) -> Result<Option<(ObjId, &'w [u8])>, QuestionFault> {
-        let Some((object, end)) = word.split_at_checked(word.len().saturating_sub(5)) else {
-            return Ok(None);
-        };
-        let Some(object) = self.object(alloc, object)? else {
-            return Ok(None);
-        };
-        let mut told = Vec::from_slice(alloc, id_text(alloc, object)?.as_bytes())?;
-        told.extend_from_slice(end)?;
-        match queue_of(told.as_slice()) {
-            Some(_) => Ok(Some((object, end))),
-            None => Ok(None),
-        }
-    }
-
     /// How many objects of a kind the boot makes.
-    fn count(&self, kind: Kind) -> u32 {
-        let mut count: u32 = 0;
-        for line in self.boot {
-            if kind_of(line).is_some_and(|made| made.is_same(kind)) {
-                count = count.saturating_add(1);
-            }
-        }
-        count
+    fn count(&self, kind: Kind) -> usize
+        ensures { result ≡ made (scene_of self.now) kind }
+    {
+        self.boot.iter().filter(|line| makes(kind, line)).count()
     }
 
     /// Whether a user has an entry that makes an object.
-    fn makes_objects(&self) -> bool {
-        self.users.lists().iter().any(|list| list.entries.iter().any(|entry| entry.makes_object()))
+    fn makes_objects(&self) -> bool
+        ensures { result ≡ makes_objects self.now.users.now }
+    {
+        self.users
+            .lists()
+            .iter()
+            .any(|list| user_makes_object(list))
     }
 
     /// Whether an object can be there: the boot makes it, or a user can.
-    fn can_be(&self, object: ObjId) -> bool {
-        object.serial <= self.count(object.kind)
+    fn can_be(&self, object: ObjId) -> bool
+        ensures { result ≡ can_be (scene_of self.now) object }
+    {
+        object.serial as usize <= self.count(object.kind)
             || (is_made_later(object.kind) && self.makes_objects())
     }
 
     /// Fails with NoObject where the object that a word names can't be there.
-    pub fn expect(&self, alloc: Global, word: &[u8], object: ObjId) -> Result<(), QuestionFault> {
+    pub fn expect(&self, alloc: Global, word: &[u8], object: ObjId) -> Result<(), QuestionFault>
+        ensures said { OnOk result (can_be (scene_of self.now) object ≡ true) }
+        ensures told { IfErr result (λ e.
+            is_of_memory e ≡ false → can_be (scene_of self.now) object ≡ false) }
+    {
         if self.can_be(object) {
             return Ok(());
         }
@@ -123,8 +144,9 @@ impl<'a> There<'a> {
     /// The objects of a kind that the boot makes.
     fn objects(&self, alloc: Global, kind: Kind) -> Result<Listed, AllocError> {
         let mut told = Listed::new(alloc);
-        for before in 0..self.count(kind) {
-            let serial = before.saturating_add(1);
+        let mut serial: u32 = 0;
+        for _ in 0..self.count(kind) {
+            serial = serial.saturating_add(1);
             told.add(id_text(alloc, ObjId { kind, serial })?.as_bytes())?;
         }
         Ok(told)
@@ -159,25 +181,35 @@ impl<'a> There<'a> {
         Ok(told)
     }
 
-    /// The list of the user that a word names. NoUser where it names none.
-    pub fn user(&self, alloc: Global, word: &[u8]) -> Result<&'a UserList, QuestionFault> {
-        if let Some(thread) = self.object(alloc, word)? {
-            for list in self.users.lists() {
-                if list.thread.is_same(thread) {
-                    return Ok(list);
-                }
-            }
-        }
-        Err(QuestionFault::NoUser {
+    /// The fault of a word that names no user.
+    fn no_user(&self, alloc: Global, word: &[u8]) -> Result<QuestionFault, AllocError>
+        ensures { IfOk result (λ e. is_of_memory e ≡ false) }
+    {
+        Ok(QuestionFault::NoUser {
             word: Word::new(alloc, word)?,
             there: self.threads(alloc)?,
         })
     }
+
+    /// The list of the user that a word names. NoUser where it names none.
+    pub fn user(&self, alloc: Global, word: &[u8]) -> Result<&'a UserList, QuestionFault>
+        ensures said { IfOk result (λ l. user_by (scene_of self.now) word.now ≡ Some l.now) }
+        ensures told { IfErr result (Refuses (user_by (scene_of self.now) word.now)) }
+    {
+        let Some(thread) = self.object(alloc, word)? else {
+            return Err(self.no_user(alloc, word)?);
+        };
+        match list_of(self.users, thread) {
+            Some(list) => Ok(list),
+            None => Err(self.no_user(alloc, word)?),
+        }
+    }
 }
 
-/// The entry of a user that has this number, as a word writes it.
-fn numbered(list: &UserList, word: &[u8]) -> Option<Entries> {
-    let number = number_of(word)?;
+/// The entry of a user of this number, from 1 on.
+fn entry_at(list: &UserList, number: u64) -> Option<Entries>
+    ensures { result ≡ entry_at list.now number }
+{
     if number == 0 || number > list.entries.len() as u64 {
         return None;
     }
@@ -187,18 +219,47 @@ fn numbered(list: &UserList, word: &[u8]) -> Option<Entries> {
     })
 }
 
+/// The entry of a user that has this number, as a word writes it.
+fn numbered(list: &UserList, word: &[u8]) -> Option<Entries>
+    ensures { result ≡ numbered list.now word.now }
+{
+    entry_at(list, number_of(word)?)
+}
+
+/// Whether it is the name of entries of a thread.
+fn is_label(thread: ObjId, word: &[u8], label: &Label) -> bool
+    ensures { result ≡ is_label thread word.now label.now }
+{
+    label.thread.is_same(thread) && label.name.as_slice() == word
+}
+
+/// The first of these names of entries that a thread has, and that is this word.
+fn label_of<'l>(labels: &'l [Label], thread: ObjId, word: &[u8]) -> Option<&'l Label>
+    ensures { option_copied result ≡ find (is_label thread word.now) labels.now }
+{
+    labels.iter().find(|label| is_label(thread, word, label))
+}
+
 impl<'a> There<'a> {
     /// The entries of a user of which a word is the name.
-    pub fn labelled(&self, list: &UserList, word: &[u8]) -> Option<Entries> {
-        for label in self.labels {
-            if label.thread.is_same(list.thread) && label.name.as_slice() == word {
-                return Some(Entries {
-                    first: label.first,
-                    last: label.last,
-                });
-            }
+    pub fn labelled(&self, list: &UserList, word: &[u8]) -> Option<Entries>
+        ensures { result ≡ labelled (scene_of self.now) list.now word.now }
+    {
+        let label = label_of(self.labels, list.thread, word)?;
+        Some(Entries {
+            first: label.first,
+            last: label.last,
+        })
+    }
+
+    /// The entries of a user that a word says, if it says some.
+    fn entries_by(&self, list: &UserList, word: &[u8]) -> Option<Entries>
+        ensures { result ≡ entries_by (scene_of self.now) list.now word.now }
+    {
+        match numbered(list, word) {
+            Some(entries) => Some(entries),
+            None => self.labelled(list, word),
         }
-        None
     }
 
     /// The entries of a user that a word says: one by its number, or those that have the name.
@@ -208,8 +269,13 @@ impl<'a> There<'a> {
         alloc: Global,
         list: &UserList,
         word: &[u8],
-    ) -> Result<Entries, QuestionFault> {
-        match numbered(list, word).or_else(|| self.labelled(list, word)) {
+    ) -> Result<Entries, QuestionFault>
+        ensures said { IfOk result (λ es.
+            entries_by (scene_of self.now) list.now word.now ≡ Some es) }
+        ensures told { IfErr result (Refuses
+            (entries_by (scene_of self.now) list.now word.now)) }
+    {
+        match self.entries_by(list, word) {
             Some(entries) => Ok(entries),
             None => Err(no_entry(alloc, list, word)?),
         }
@@ -217,29 +283,29 @@ impl<'a> There<'a> {
 
     /// The entry of a user that a word says. NoEntry where it says none, Block where it says
     /// several.
-    pub fn entry(
-        &self,
-        alloc: Global,
-        list: &UserList,
-        word: &[u8],
-    ) -> Result<Event, QuestionFault> {
+    pub fn entry(&self, alloc: Global, list: &UserList, word: &[u8]) -> Result<Event, QuestionFault>
+        ensures said { IfOk result (λ e. entry_by (scene_of self.now) list.now word.now ≡ Some e) }
+        ensures told { IfErr result (Refuses (entry_by (scene_of self.now) list.now word.now)) }
+    {
         let Entries { first, last } = self.entries(alloc, list, word)?;
-        if first != last {
-            return Err(QuestionFault::Block {
-                word: Word::new(alloc, word)?,
-                first,
-                last,
+        if first == last {
+            return Ok(Event {
+                thread: list.thread,
+                number: first,
             });
         }
-        Ok(Event {
-            thread: list.thread,
-            number: first,
+        Err(QuestionFault::Block {
+            word: Word::new(alloc, word)?,
+            first,
+            last,
         })
     }
 }
 
 /// The fault of a word that is the number of no entry of a user.
-pub fn no_entry(alloc: Global, list: &UserList, word: &[u8]) -> Result<QuestionFault, AllocError> {
+pub fn no_entry(alloc: Global, list: &UserList, word: &[u8]) -> Result<QuestionFault, AllocError>
+    ensures { IfOk result (λ e. is_of_memory e ≡ false) }
+{
     Ok(QuestionFault::NoEntry {
         word: Word::new(alloc, word)?,
         thread: id_text(alloc, list.thread)?,

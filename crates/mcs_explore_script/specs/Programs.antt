@@ -1,11 +1,12 @@
 -- The programs of a script (own): the lines `#! THREAD: STATEMENT`, and users with them.
-use Rattle.std.specs.Prelude.{ℕ, ◌≡◌, ◌-◌, ◌==◌, ◌&&◌, Bool, false, cond, length, slice_get, List, [], ◌∷◌, Option, Some, None}
+use Rattle.std.specs.Prelude.{ℕ, ◌≡◌, ◌++◌, ◌-◌, ◌==◌, ◌&&◌, Bool, false, cond, length, slice_get, List, [], ◌∷◌, Option, Some, None}
 use Rattle.std.specs.List.{All, list_any}
 use Rattle.mcs_types.specs.declared.id.ObjId.{ObjId}
 use Rattle.mcs_text.specs.Reading.{lines_of, words_of}
 use Rattle.mcs_turns.specs.Turns.{User}
 use Rattle.mcs_users.specs.Users.{with_entry, with_program}
 use Rattle.mcs_explore_programs.specs.declared.code.ProgramEntry.{ProgramEntry}
+use Rattle.mcs_explore_programs.specs.declared.program.Label.{Label}
 use Rattle.mcs_explore_programs.specs.declared.program.Program.{Program}
 use Rattle.mcs_explore_programs.specs.Programs.{IsProgram}
 
@@ -40,6 +41,11 @@ with_one_program us p = with_program (with_program_entries us p.thread p.entries
 abbrev pub with_programs : List User → List Program → List User
 with_programs us [] = us
 with_programs us (p ∷ ps) = with_programs (with_one_program us p) ps
+
+-- the names of the entries and blocks of programs
+abbrev pub labels_of : List Program → List Label
+labels_of [] = []
+labels_of (p ∷ ps) = p.labels.items ++ labels_of ps
 
 -- what was read of the programs of a text: none where it has no line of one, and of each that its
 -- lines name entries and lines that are there

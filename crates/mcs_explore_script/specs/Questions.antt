@@ -1,5 +1,10 @@
 -- The lines of a script that ask something (own).
-use Rattle.std.specs.Prelude.{ℕ, ◌+◌, ◌==◌, ◌&&◌, Bool, false, not, cond, List, [], ◌∷◌}
+use Rattle.std.specs.Prelude.{ℕ, ◌+◌, ◌==◌, ◌&&◌, Bool, false, not, cond, List, [], ◌∷◌, Option, Some}
+use Rattle.mcs_text.specs.Reading.{words_of}
+use Rattle.mcs_explore_questions.specs.Questions.{Said, asks, question_of, said_of}
+use Rattle.mcs_explore_questions.specs.Reading.{◌>>=◌}
+use Rattle.mcs_explore_questions.specs.There.{Scene}
+use Rattle.mcs_explore_script.specs.declared.questions.AskedLine.{AskedLine}
 use Rattle.mcs_explore_script.specs.Programs.{is_program_line}
 
 -- whether a line begins with #!
@@ -11,7 +16,19 @@ is_marked _ = false
 abbrev pub is_question : List ℕ → Bool
 is_question line = is_marked line && not (is_program_line line)
 
--- the numbers of the lines that ask something, where the first has this number
-abbrev pub numbers_from : ℕ → List (List ℕ) → List ℕ
-numbers_from n [] = []
-numbers_from n (l ∷ ls) = cond (is_question l) (n ∷ numbers_from (n + 1) ls) (numbers_from (n + 1) ls)
+-- what the words of a line ask of what is there, if they ask something
+abbrev pub line_asks : Scene → List ℕ → Option Said
+line_asks s line = question_of line >>= λ text. asks s (words_of text)
+
+-- the number of a line, and what its words ask, if they ask something
+abbrev pub LineAsks : Type 0
+LineAsks = ℕ × Option Said
+
+-- what a question that was read says of its line
+abbrev pub said_by : AskedLine → LineAsks
+said_by q = (q.line, Some (said_of q.asked))
+
+-- the lines of a text that ask something, where the first line has this number
+abbrev pub questions_from : Scene → ℕ → List (List ℕ) → List LineAsks
+questions_from s n [] = []
+questions_from s n (l ∷ ls) = cond (is_question l) ((n, line_asks s l) ∷ questions_from s (n + 1) ls) (questions_from s (n + 1) ls)

@@ -1,4 +1,7 @@
 //! The names of a script, and the texts of its entries.
+ghost use Rattle.std.specs.Prelude.{◌≡◌, IfOk};
+ghost use Rattle.mcs_lab_check.specs.Naming.{text_names};
+
 use mcs_lab_check::{LabFault, Names};
 use mcs_text::{Lines, UserEntry, Words, find_boot_key};
 use mcs_types::ObjId;
@@ -12,10 +15,15 @@ pub struct EntryText {
 }
 
 /// Returns the names that the lines of a text give. Fault Form where a line `#@` has not its form.
-pub fn read_names(alloc: Global, text: &[u8]) -> Result<Names, LabFault> {
+pub fn read_names(alloc: Global, text: &[u8]) -> Result<Names, LabFault>
+    ensures { IfOk result (λ names. names ≡ text_names text.now) }
+{
     let mut names = Names::new(alloc);
-    for (before, line) in text.split(|byte| *byte == b'\n').enumerate() {
-        names.hear(alloc, (before as u64).saturating_add(1), line)?;
+    let mut lines = Lines::new(text);
+    let mut number: u64 = 1;
+    while let Some(line) = lines.next_line() {
+        names.hear(alloc, number, line)?;
+        number = number.saturating_add(1);
     }
     Ok(names)
 }

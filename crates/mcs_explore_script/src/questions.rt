@@ -1,7 +1,9 @@
 //! The questions of a script.
-ghost use Rattle.std.specs.Prelude.{◌≡◌, ◌++◌, ◌∷◌, [], cond, map, IfOk, OnOk};
+ghost use Rattle.std.specs.Prelude.{◌≡◌, ◌++◌, ◌∷◌, [], cond, map, Some, IfOk, OnOk};
 ghost use Rattle.mcs_text.specs.Reading.{lines_of};
-ghost use Rattle.mcs_explore_script.specs.Questions.{is_marked, is_question, numbers_from};
+ghost use Rattle.mcs_explore_questions.specs.Questions.{said_of};
+ghost use Rattle.mcs_explore_questions.specs.There.{scene_of};
+ghost use Rattle.mcs_explore_script.specs.Questions.{is_marked, is_question, line_asks, questions_from, said_by};
 
 use crate::programs::is_program_line;
 use mcs_explore_questions::{Asked, ExploreFault, QuestionFault, There, asked_of, question_of};
@@ -34,13 +36,12 @@ fn is_question(line: &[u8]) -> bool
 }
 
 /// Returns the text of a question and what it asks of a script.
-fn parts_of(
-    alloc: Global,
-    there: There<'_>,
-    line: &[u8],
-) -> Result<(Vec<u8>, Asked), QuestionFault> {
+fn parts_of(alloc: Global, there: There<'_>, line: &[u8]) -> Result<(Vec<u8>, Asked), QuestionFault>
+    ensures { IfOk result (λ r. line_asks (scene_of there.entry) line.now ≡ Some (said_of r.1)) }
+{
     let text = question_of(alloc, line)?;
-    Ok((Vec::from_slice(alloc, text)?, asked_of(alloc, there, text)?))
+    let asked = asked_of(alloc, there, text)?;
+    Ok((Vec::from_slice(alloc, text)?, asked))
 }
 
 /// Adds the question of a line, if it asks something. A fault where it has none of their forms, or
@@ -52,8 +53,9 @@ fn add_line(
     line: &[u8],
     all: &mut Vec<AskedLine>,
 ) -> Result<(), ExploreFault>
-    ensures { OnOk result (map (λ q. q.line) all.new.items
-        ≡ map (λ q. q.line) all.old.items ++ cond (is_question line.now) (number ∷ []) []) }
+    ensures { OnOk result (map said_by all.new.items ≡ map said_by all.old.items
+        ++ cond (is_question line.now)
+        ((number, line_asks (scene_of there.entry) line.now) ∷ []) []) }
 {
     if !is_question(line) {
         return Ok(());
@@ -75,8 +77,8 @@ pub fn read_questions(
     there: There<'_>,
     text: &[u8],
 ) -> Result<Vec<AskedLine>, ExploreFault>
-    ensures { IfOk result (λ all.
-        map (λ q. q.line) all.items ≡ numbers_from 1 (lines_of text.now)) }
+    ensures { IfOk result (λ all. map said_by all.items
+        ≡ questions_from (scene_of there.entry) 1 (lines_of text.now)) }
 {
     let mut all = Vec::new(alloc);
     let mut lines = Lines::new(text);

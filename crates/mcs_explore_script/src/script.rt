@@ -1,6 +1,8 @@
 //! What a script of users says.
-ghost use Rattle.std.specs.Prelude.{IfOk};
-ghost use Rattle.mcs_explore_script.specs.Scripts.{AreUsers, IsScript};
+ghost use Rattle.std.specs.Prelude.{◌≡◌, map, IfOk};
+ghost use Rattle.mcs_text.specs.Reading.{lines_of};
+ghost use Rattle.mcs_explore_script.specs.Questions.{questions_from, said_by};
+ghost use Rattle.mcs_explore_script.specs.Scripts.{AreUsers, IsScript, SaysScript, scene};
 
 use crate::lives::{Live, lives_of};
 use crate::marks::{EntryText, entry_texts, read_names};
@@ -49,7 +51,7 @@ fn read_users(
     entries: Vec<UserEntry>,
     names: &Names,
 ) -> Result<UserTexts, ExploreFault>
-    ensures { IfOk result (λ s. AreUsers text.now entries.items s.users) }
+    ensures { IfOk result (λ s. AreUsers text.now entries.items s.users s.labels.items) }
 {
     let mut texts = entry_texts(alloc, text, &entries)?;
     let Ok(mut users) = users_of(alloc, entries) else {
@@ -73,33 +75,47 @@ fn read_users(
     })
 }
 
-/// Reads a source to its end. The faults are first those of `mcssim run`, in the order of lines,
-/// then of names, of programs, and then of questions, which may name entries of any program.
-pub fn read_script<R: Read>(alloc: Global, from: &mut Source<R>) -> Result<UserScript, ExploreFault>
-    ensures { IfOk result (λ s. IsScript (R.remaining from.old.reader)
-        (R.remaining from.new.reader) s) }
+/// Reads what the lines of a text ask, which may name entries of any program. The faults of
+/// questions are in the order of their lines.
+fn read_asked(
+    alloc: Global,
+    text: &[u8],
+    boot: &Boot,
+    names: &Names,
+    said: &UserTexts,
+) -> Result<Vec<AskedLine>, ExploreFault>
+    ensures { IfOk result (λ asked. map said_by asked.items
+        ≡ questions_from (scene boot.now said.now.users names.now said.now.labels.items) 1
+        (lines_of text.now)) }
+{
+    let there = There {
+        boot: boot.lines(),
+        users: &said.users,
+        names,
+        labels: said.labels.as_slice(),
+    };
+    read_questions(alloc, there, text)
+}
+
+/// Reads what a text of users says, with this boot and these entries. The faults are first those of
+/// names, then of programs, and then of questions.
+fn read_said(alloc: Global, said: UsersText) -> Result<UserScript, ExploreFault>
+    ensures boot { IfOk result (λ s. s.boot ≡ said.boot) }
+    ensures says { IfOk result (λ s. SaysScript said.text.items said.entries.items s) }
 {
     let UsersText {
         text,
         boot,
         entries,
-    } = match read_text(alloc, from) {
-        Ok(said) => said,
-        Err(fault) => return Err(ExploreFault::Lab(LabFault::from(fault))),
-    };
+    } = said;
     let names = read_names(alloc, &text)?;
+    let told = read_users(alloc, &text, &boot, entries, &names)?;
+    let asked = read_asked(alloc, &text, &boot, &names, &told)?;
     let UserTexts {
         mut users,
         texts,
-        labels,
-    } = read_users(alloc, &text, &boot, entries, &names)?;
-    let there = There {
-        boot: boot.lines(),
-        users: &users,
-        names: &names,
-        labels: &labels,
-    };
-    let asked = read_questions(alloc, there, &text)?;
+        ..
+    } = told;
     repeat(alloc, &mut users, &asked)?;
     come_once(alloc, &users, &asked)?;
     let lives = lives_of(alloc, &users, &asked)?;
@@ -111,4 +127,18 @@ pub fn read_script<R: Read>(alloc: Global, from: &mut Source<R>) -> Result<UserS
         lives,
         names,
     })
+}
+
+/// Reads a source to its end. The faults are first those of `mcssim run`, in the order of lines,
+/// then of names, of programs, and then of questions, which may name entries of any program.
+pub fn read_script<R: Read>(alloc: Global, from: &mut Source<R>) -> Result<UserScript, ExploreFault>
+    ensures { IfOk result (λ s. IsScript (R.remaining from.old.reader)
+        (R.remaining from.new.reader) s) }
+{
+    let said = match read_text(alloc, from) {
+        Ok(said) => said,
+        Err(fault) => return Err(ExploreFault::Lab(LabFault::from(fault))),
+    };
+    let script = read_said(alloc, said)?;
+    Ok(script)
 }

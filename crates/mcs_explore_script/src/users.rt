@@ -1,7 +1,7 @@
 //! The users of a script.
-ghost use Rattle.std.specs.Prelude.{◌≡◌, [], IfOk, OnOk};
+ghost use Rattle.std.specs.Prelude.{◌≡◌, ◌++◌, ◌∷◌, [], IfOk, OnOk};
 ghost use Rattle.mcs_users.specs.Users.{with_entry};
-ghost use Rattle.mcs_explore_script.specs.Programs.{with_one_program, with_program_entries, with_programs};
+ghost use Rattle.mcs_explore_script.specs.Programs.{labels_of, with_one_program, with_program_entries, with_programs};
 ghost use Rattle.mcs_explore_script.specs.UserLists.{all_again, asked_again, with_entries};
 
 use crate::marks::EntryText;
@@ -56,12 +56,22 @@ fn add_entries(
     Ok(())
 }
 
+/// Adds a label behind others. OutOfMemory where memory was refused.
+fn add_label(all: &mut Vec<Label>, label: Label) -> Result<(), OutOfMemory>
+    ensures { OnOk result (all.new.items ≡ all.old.items ++ label ∷ []) }
+{
+    match all.push(label) {
+        Ok(()) => Ok(()),
+        Err(_) => Err(OutOfMemory),
+    }
+}
+
 /// Adds labels behind others. OutOfMemory where memory was refused.
-fn add_labels(all: &mut Vec<Label>, more: Vec<Label>) -> Result<(), OutOfMemory> {
+fn add_labels(all: &mut Vec<Label>, more: Vec<Label>) -> Result<(), OutOfMemory>
+    ensures { OnOk result (all.new.items ≡ all.old.items ++ more.items) }
+{
     for label in more {
-        if all.push(label).is_err() {
-            return Err(OutOfMemory);
-        }
+        add_label(all, label)?;
     }
     Ok(())
 }
@@ -73,7 +83,8 @@ fn add_program(
     labels: &mut Vec<Label>,
     program: Program,
 ) -> Result<(), OutOfMemory>
-    ensures { OnOk result (users.new ≡ with_one_program users.old program) }
+    ensures users { OnOk result (users.new ≡ with_one_program users.old program) }
+    ensures labels { OnOk result (labels.new.items ≡ labels.old.items ++ program.labels.items) }
 {
     let Program {
         thread,
@@ -96,7 +107,9 @@ pub fn add_programs(
     labels: &mut Vec<Label>,
     programs: Vec<Program>,
 ) -> Result<(), OutOfMemory>
-    ensures { OnOk result (users.new ≡ with_programs users.old programs.items) }
+    ensures users { OnOk result (users.new ≡ with_programs users.old programs.items) }
+    ensures labels { OnOk result
+        (labels.new.items ≡ labels.old.items ++ labels_of programs.items) }
 {
     for program in programs {
         add_program(users, texts, labels, program)?;

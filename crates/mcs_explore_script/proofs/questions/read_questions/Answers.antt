@@ -4,6 +4,6 @@ use Rattle.mcs_explore_script.proofs.questions.read_questions.Goals as goal
 
 pub loop-line-init : goal.loop-line-init
 loop-line-init c = record {
-  numbers = search rules;
+  said = search rules;
   few = let few = lines-few c.args.text.now in let same = ap (λ (ls : List (List ℕ)). length ls) c.new-lines.ensures in omega (arith, few, same);
 }

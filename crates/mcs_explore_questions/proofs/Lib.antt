@@ -1,0 +1,4 @@
+pub mod Joining
+pub mod Counting
+pub mod Handing
+pub mod Fitting
