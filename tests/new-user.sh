@@ -46,7 +46,7 @@ ends 0 state first.plan
 ends 0 state --stuck first.plan
 call=$(grep -n '^client: call' first.plan | cut -d: -f1)
 ends 0 state --at "$call" first.plan
-grep -q 't2 (fs)  *runs' out || grep -q 'fs' out || fails "no state"
+grep -q 't1 (client).* waits for the answer' out || fails "no state behind line $call"
 ends 0 draw --from "$call" --to "$call" first.plan
 
 # An expectation that does not hold, and a word that is wrong, are told by the plan's line.

@@ -16,7 +16,7 @@ pub struct Begun<'a> {
 
 /// A plan of steps.
 const STEPS: &str = "\
-# A client and a passive file server
+# A client and a passive file server.
 
 endpoint fs.ep                       # where clients send their requests
 reply fs.reply                       # owes each of them an answer
@@ -38,7 +38,7 @@ fs: replyrecv fs.ep fs.reply 0 512   # answers with 512, and waits for the next 
 
 /// A plan of users.
 const USERS: &str = "\
-# The same server with two clients, in each order that the scheduler allows
+# The same server with two clients, in each order that the scheduler allows.
 
 endpoint fs.ep
 reply fs.reply
