@@ -13,6 +13,6 @@ pub record HandsOut (text old new : List ℕ) (n : ℕ) : Type 0 where
 
 -- memory was refused: that was answered, and nothing was written
 pub record IsRefused (status : ℕ) (old new : List ℕ) (end end' : McsEnd) : Type 0 where
-  pub status : status ≡ 6
+  pub answered : status ≡ 6
   pub bytes : new ≡ old
   pub ended : end' ≡ end

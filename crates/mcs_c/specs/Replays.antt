@@ -1,5 +1,5 @@
 -- What comes of a script, and of a line more.
-use Rattle.std.specs.Prelude.{◌≡◌, ℕ, List, [], ◌∷◌, ◌++◌, Result, Ok, Err}
+use Rattle.std.specs.Prelude.{◌≡◌, ℕ, Bool, true, false, List, [], ◌∷◌, ◌++◌, Result, Ok, Err}
 use Rattle.mcs_text.specs.Faults.{fault_number}
 use Rattle.mcs_phases.specs.declared.fault.SimFault.{SimFault}
 use Rattle.mcs_phases.specs.declared.fault.SimFault.TheVariants as fault
@@ -31,7 +31,7 @@ trace_so_far g = trace_of g.course.stands.book
 pub record Adds (old new : Going) (text text' : List ℕ) : Type 0 where
   pub more : List ℕ
   pub adds : trace_so_far new ≡ trace_so_far old ++ more
-  pub text : text' ≡ text ++ more
+  pub grown : text' ≡ text ++ more
 
 -- a piece was taken, what it adds to the trace was added to a text, and this was answered
 pub record Tells (old : Going) (piece : List ℕ) (new : Going) (text text' : List ℕ) (answer : Result (Unit {0}) SimFault) : Type 0 where
@@ -53,6 +53,12 @@ pub record IsStep (script line more : List ℕ) (answer : Result (Unit {0}) SimF
   pub answers : answer ≡ answer_of (after (going script) line).course.fault
   pub fair : IsFairBook (after (going script) line).course.stands.book
 
+-- whether memory was refused
+abbrev pub is_refused : Result (Unit {0}) SimFault → Bool
+is_refused (Ok u) = false
+is_refused (Err fault.OutOfMemory) = true
+is_refused (Err e) = false
+
 -- the status for the answer of a replay
 abbrev pub status_of : Result (Unit {0}) SimFault → ℕ
 status_of (Ok u) = 0
@@ -72,7 +78,7 @@ why_of r = 0
 
 -- how a call tells the answer of a replay
 pub record IsEnd (answer : Result (Unit {0}) SimFault) (status : ℕ) (end : McsEnd) : Type 0 where
-  pub status : status ≡ status_of answer
+  pub answered : status ≡ status_of answer
   pub line : end.line ≡ line_of answer
   pub why : end.fault ≡ why_of answer
 

@@ -1,61 +1,55 @@
 //! Scripts of steps: whole, or a line more.
-ghost use Rattle.std.specs.Prelude.{◌≡◌, ◌⊎◌, [], Err, IfOk, IfErr};
-ghost use Rattle.mcs_phases.specs.declared.fault.SimFault.TheVariants as SimFault;
+ghost use Rattle.std.specs.Prelude.{◌≡◌, ◌⊎◌, IfOk};
 ghost use Rattle.mcs_c.specs.Handing.{HandsOut, IsRefused};
 ghost use Rattle.mcs_c.specs.Replays.{going, IsEnd, IsReplay, IsStep, Replays, Steps};
 
 use crate::handing::{McsEnd, NO_MEMORY, hand_out};
-use crate::telling::tell;
+use crate::telling::{Told, tell};
 use mcs_sim::{SimFault, TracedRun};
+use mcs_types::OutOfMemory;
 use std::alloc::Global;
 
-/// Adds the trace of a script to an empty text, to the script's end or to its first fault.
-fn replay(alloc: Global, script: &[u8], text: &mut Vec<u8>) -> Result<(), SimFault>
-    requires { text.old.items ≡ [] }
-    ensures { result ≡ Err SimFault.OutOfMemory ⊎ IsReplay script.now text.new.items result }
+/// Returns the trace of a script, to the script's end or to its first fault.
+#[tactic(auto, using(crate::proofs::Replayed::replayed, crate::proofs::Replayed::replayed_empty))]
+fn replay(alloc: Global, script: &[u8]) -> Result<Told, OutOfMemory>
+    ensures { IfOk result (λ t. IsReplay script.now t.text.items t.ended) }
 {
-    let Ok(mut run) = TracedRun::new(alloc) else {
-        return Err(SimFault::OutOfMemory);
-    };
-    if !script.is_empty() {
-        tell(alloc, &mut run, script, text)?;
+    let mut run = TracedRun::new(alloc)?;
+    if script.is_empty() {
+        return tell(alloc, &mut run, &[], Vec::new(alloc));
     }
+    let Told { text, ended: _ } = tell(alloc, &mut run, script, Vec::new(alloc))?;
     tell(alloc, &mut run, &[], text)
 }
 
-/// Takes a script whose end has not come, and writes nothing of it. OutOfMemory is the only fault.
-fn begin(alloc: Global, script: &[u8]) -> Result<TracedRun, SimFault>
-    ensures ok { IfOk result (λ r. r ≡ going script.now) }
-    ensures err { IfErr result (λ e. e ≡ SimFault.OutOfMemory) }
+/// Returns a run that took a script whose end has not come.
+#[tactic(auto, using(crate::proofs::Replayed::began, crate::proofs::Replayed::went))]
+fn begin(alloc: Global, script: &[u8]) -> Result<TracedRun, OutOfMemory>
+    ensures { IfOk result (λ r. r ≡ going script.now) }
 {
-    let Ok(mut run) = TracedRun::new(alloc) else {
-        return Err(SimFault::OutOfMemory);
-    };
+    let mut run = TracedRun::new(alloc)?;
     if script.is_empty() {
         return Ok(run);
     }
-    let mut text = Vec::new(alloc);
-    match tell(alloc, &mut run, script, &mut text) {
-        Err(SimFault::OutOfMemory) => Err(SimFault::OutOfMemory),
-        _ => Ok(run),
-    }
+    let _told = tell(alloc, &mut run, script, Vec::new(alloc))?;
+    Ok(run)
 }
 
-/// Adds to an empty text what a line adds to the trace of the script before it.
-fn step(alloc: Global, script: &[u8], line: &[u8], text: &mut Vec<u8>) -> Result<(), SimFault>
-    requires { text.old.items ≡ [] }
-    ensures { result ≡ Err SimFault.OutOfMemory ⊎ IsStep script.now line.now text.new.items result }
+/// Returns what a line adds to the trace of the script before it.
+#[tactic(auto, using(crate::proofs::Replayed::stepped))]
+fn step(alloc: Global, script: &[u8], line: &[u8]) -> Result<Told, OutOfMemory>
+    ensures { IfOk result (λ t. IsStep script.now line.now t.text.items t.ended) }
 {
     let mut run = begin(alloc, script)?;
-    tell(alloc, &mut run, line, text)
+    tell(alloc, &mut run, line, Vec::new(alloc))
 }
 
-/// The status of an answer, the line that is refused, and the number of its fault.
-fn ending(answer: Result<(), SimFault>, length: usize) -> (u32, McsEnd)
-    ensures ends { IsEnd answer result.0 result.1 }
+/// How a call tells that a run ended so, with a text of this length.
+fn ending(ended: Result<(), SimFault>, length: usize) -> (u32, McsEnd)
+    ensures ends { IsEnd ended result.0 result.1 }
     ensures length { result.1.length ≡ length }
 {
-    let (status, line, fault) = match answer {
+    let (status, line, fault) = match ended {
         Ok(()) => (0, 0, 0),
         Err(SimFault::Script { line, why }) => (2, line, u64::from(why.number())),
         Err(SimFault::BookFull) => (5, 0, 0),
@@ -72,12 +66,12 @@ fn ending(answer: Result<(), SimFault>, length: usize) -> (u32, McsEnd)
     )
 }
 
-/// Hands a text out, with how the call ended, and returns the status.
-fn finish(answer: Result<(), SimFault>, text: &[u8], out: &mut [u8], end: &mut McsEnd) -> u32
-    ensures wrote { HandsOut text.now out.old out.new end.new.length }
-    ensures ends { IsEnd answer result end.new }
+/// Hands a text out, with how its run ended, and returns the status.
+fn finish(told: &Told, out: &mut [u8], end: &mut McsEnd) -> u32
+    ensures wrote { HandsOut told.now.text.items out.old out.new end.new.length }
+    ensures ends { IsEnd told.now.ended result end.new }
 {
-    let (status, ended) = ending(answer, hand_out(text, out));
+    let (status, ended) = ending(told.ended, hand_out(&told.text, out));
     *end = ended;
     status
 }
@@ -86,14 +80,14 @@ fn finish(answer: Result<(), SimFault>, text: &[u8], out: &mut [u8], end: &mut M
 /// whole script is replayed; 2 where a line is refused and 5 where the book is full, and the trace
 /// is that of the steps before; 6 where memory is refused, and nothing is written.
 #[unsafe(no_mangle)]
+#[tactic(auto, using(crate::proofs::Replayed::replays))]
 pub extern "C" fn mcs_replay(alloc: Global, script: &[u8], out: &mut [u8], end: &mut McsEnd) -> u32
     ensures { IsRefused result out.old out.new end.old end.new
         ⊎ Replays script.now result out.old out.new end.new }
 {
-    let mut text = Vec::new(alloc);
-    match replay(alloc, script, &mut text) {
-        Err(SimFault::OutOfMemory) => NO_MEMORY,
-        answer => finish(answer, &text, out, end),
+    match replay(alloc, script) {
+        Ok(told) => finish(&told, out, end),
+        Err(OutOfMemory) => NO_MEMORY,
     }
 }
 
@@ -101,6 +95,7 @@ pub extern "C" fn mcs_replay(alloc: Global, script: &[u8], out: &mut [u8], end: 
 /// what the line adds to the trace. An empty line is the end of the input. The statuses are those
 /// of `mcs_replay`; a fault of the script before the line is that of the call.
 #[unsafe(no_mangle)]
+#[tactic(auto, using(crate::proofs::Replayed::steps))]
 pub extern "C" fn mcs_step(
     alloc: Global,
     script: &[u8],
@@ -111,9 +106,8 @@ pub extern "C" fn mcs_step(
     ensures { IsRefused result out.old out.new end.old end.new
         ⊎ Steps script.now line.now result out.old out.new end.new }
 {
-    let mut text = Vec::new(alloc);
-    match step(alloc, script, line, &mut text) {
-        Err(SimFault::OutOfMemory) => NO_MEMORY,
-        answer => finish(answer, &text, out, end),
+    match step(alloc, script, line) {
+        Ok(told) => finish(&told, out, end),
+        Err(OutOfMemory) => NO_MEMORY,
     }
 }

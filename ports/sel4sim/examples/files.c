@@ -16,14 +16,14 @@ static const char boot[] =
     "#@ t1 reader\n#@ t2 syncer\n#@ t3 files\n#@ t4 disk\n#@ t5 starter\n#@ e1 fs\n#@ e2 dev\n"
     "cores 1\n"
     "cnode 3\ncnode 3\ncnode 3\ncnode 3\ncnode 3\n"
-    "endpoint\nendpoint\nnotification\nreply\nreply\n"
+    "endpoint\nendpoint\nnotification\nnotification\nnotification\nreply\nreply\n"
     "context 0\ncontext 0\ncontext 0\ncontext 0\ncontext 0\n"
     "thread 10 255 c1 61 0 run s1\nthread 10 255 c2 61 0 run s2\n"
     "thread 50 255 c3 61 0 run s3\nthread 60 255 c4 61 0 run s4\nthread 255 255 c5 61 0 run s5\n"
-    "slot c1 1 e1 wp 1\nslot c2 1 e2 wp 2\n"
+    "slot c1 1 e1 wp 1\nslot c1 2 n2 r 0\nslot c2 1 e2 wp 2\nslot c2 2 n3 r 0\n"
     "slot c3 1 e1 r 0\nslot c3 2 r1\nslot c3 3 e2 wp 3\nslot c3 4 n1 w 1\n"
     "slot c4 1 e2 r 0\nslot c4 2 r2\nslot c4 3 e1 wp 4\nslot c4 4 n1 w 2\n"
-    "slot c5 1 n1 r 0\nslot c5 2 s3\nslot c5 3 s4\n";
+    "slot c5 1 n1 r 0\nslot c5 2 s3\nslot c5 3 s4\nslot c5 4 n2 w 1\nslot c5 5 n3 w 1\n";
 
 static seL4_MessageInfo_t message(seL4_Word label, seL4_Word length) {
     return seL4_MessageInfo_new(label, 0, 0, length);
@@ -68,15 +68,18 @@ static void disk(void *with) {
 
 static void reader(void *with) {
     (void)with;
+    seL4_Wait(2, NULL);
     seL4_Call(1, message(READ, 0));
     assert(seL4_GetMR(0) == 0xb10c);
 }
 
 static void syncer(void *with) {
     (void)with;
+    seL4_Wait(2, NULL);
     seL4_Call(1, message(SYNC, 0));
 }
 
+/* Takes the contexts of the servers once they wait, and lets the clients begin. */
 static void starter(void *with) {
     seL4_Word badge, ready = 0;
     (void)with;
@@ -86,6 +89,8 @@ static void starter(void *with) {
             if (badge >> n & 1)
                 assert(seL4_SchedContext_Unbind(2 + n) == seL4_NoError);
     }
+    seL4_Signal(4);
+    seL4_Signal(5);
 }
 
 static void test(uint64_t seed) {
