@@ -1,5 +1,5 @@
 -- What a run that takes a piece tells, and what is handed out of it.
-use Rattle.std.proofs.Common.{◌≡◌, inl, inr, ℕ, Bool, true, false, Option, Some, None, Result, Ok, Err, List, [], ◌∷◌, ◌++◌, refl, sym, ap, subst, ◌∙◌, append_assoc}
+use Rattle.std.proofs.Common.{◌≡◌, inl, inr, ℕ, eqb, length, Bool, true, false, Option, Some, None, Result, Ok, Err, List, [], ◌∷◌, ◌++◌, refl, sym, ap, subst, ◌∙◌, append_assoc}
 use Rattle.std.specs.Io.KnownBytes.{Appends}
 use Rattle.mcs_trace.specs.declared.sink.Sink.{Sink}
 use Rattle.mcs_trace.specs.Output.{kept}
@@ -118,3 +118,9 @@ steps script line text old new r status end is wrote ends = record {
   ends = subst (λ (r : Result (Unit {0}) SimFault). IsEnd r status end) is.answers ends;
   fair = is.fair;
 }
+
+-- a script that is not empty, by its length, was taken, and then its end
+pub replayed_on : (script : List ℕ) (g h i : Going) (text text' : List ℕ) (first second : Result (Unit {0}) SimFault)
+    → eqb (length script) 0 ≡ false → g ≡ at_line no_line → Tells g script h [] text first → Tells h [] i text text' second → IsReplay script text' second
+replayed_on [] g h i text text' first second some begins one two = absurd cc
+replayed_on (b ∷ bs) g h i text text' first second some begins one two = replayed (b ∷ bs) b bs g h i text text' first second refl begins one two
