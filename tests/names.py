@@ -3,7 +3,7 @@
 
 Reads README.md, CONTRIBUTING.md and docs/*.md. A word in backquotes counts by its shape; comments are no code.
 
-(a) `mcs_x` (anywhere), `mcslab`, `mcssim`: a crate of crates.txt with a folder in crates/.
+(a) `mcs_x` (anywhere), `mcslab`, `mcssim`: a crate of crates.txt with a folder in crates/, or a function that C calls.
 (b) A path (it has a `/` or a suffix, and `*` stands for anything): a file or a folder. Specifications may lack `.antt`.
 (c) `--word`: an option that a program declares, or that a script of tests/ or bench/ reads.
 (d) `A::b`: b is a function or a variant in a file that defines or implements A.
@@ -19,7 +19,7 @@ import sys
 from pathlib import Path
 
 ROOT = Path(__file__).resolve().parent.parent
-COMMENTS = {".rt": "//.*", ".antt": "--.*", ".sh": "#.*", ".py": "#.*", ".mjs": "//.*"}
+COMMENTS = {".rt": "//.*", ".antt": "--.*", ".sh": "#.*", ".py": "#.*", ".mjs": "//.*", ".c": "//.*", ".h": "//.*"}
 COMMANDS = {"rt", "rattle-kit-13b", "rattle-kit-13f", "git", "sh", "python3", "install", "valgrind", "grep", "head", "cat", "wc", "cd"}
 # Scripts that a run or a reader writes, a slot of a plan, a suffix, and a call of the kit.
 EXCEPTIONS = "found/end1.mcs end1.mcs stuck1.mcs question14.mcs answer-t3-2-1.mcs files.mcs anna.space/session .antt Mutex::lock"
@@ -36,7 +36,9 @@ for top, folders, files in os.walk(ROOT):
 listed = "\n".join(f"/{path}/\n/examples/{str(path).partition('mcs_test_examples/data/')[2]}/" for path in paths)
 code = {path: re.sub(COMMENTS[path.suffix], "", read(path)) for path in paths if path.suffix in COMMENTS and path.name != "names.py"}
 whole = "\n".join([*code.values(), read("crates.txt")])
-crates = set(re.findall(r"^(\w+):", read("crates.txt"), re.M))
+crates = set(re.findall(r"^(\w+)[\w ]*:", read("crates.txt"), re.M))
+# What C calls has such names too.
+crates |= set(re.findall(r'extern "C" fn (mcs_\w+)', whole))
 words = set(re.findall(r"\w+", whole)) | {path.stem for path in paths}
 labels = set(re.findall(r"\b(?:fn|ghost|(?:ensures|requires)(?=\s+\w+\s*\{))\s+(\w+)", whole))
 # Of each file the names in the heads of its types and traits, and its functions and variants.

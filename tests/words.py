@@ -137,7 +137,7 @@ def is_named(path, names):
 
 def unknown(paths):
     names = [str(path) for path in paths]
-    sources = [path for path in paths if path.suffix in (".rt", ".antt", ".sh", ".py", ".mjs", ".mcs", ".plan")]
+    sources = [path for path in paths if path.suffix in (".rt", ".antt", ".sh", ".py", ".mjs", ".c", ".h", ".mcs", ".plan")]
     text = "\n".join("\n".join(lines_of(path)) for path in sources + [Path("crates.txt")] if path.name != "words.py")
     known = set(re.findall(r"[A-Za-z_][A-Za-z0-9_]*", text)) | {path.stem for path in paths} | set(EXCEPTIONS)
     pages = [path for path in paths if str(path) in ("README.md", "CONTRIBUTING.md") or re.fullmatch(r"docs/[^/]+\.md", str(path))]

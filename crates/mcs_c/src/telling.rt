@@ -1,0 +1,56 @@
+//! A run that takes a piece of a script, and the text that this adds to its trace.
+ghost use Rattle.std.specs.Prelude.{◌≡◌, IfOk};
+ghost use Rattle.mcs_c.specs.Replays.{Tells, is_refused};
+
+use mcs_sim::{SimFault, Sink, TracedRun};
+use mcs_types::OutOfMemory;
+use std::alloc::Global;
+
+/// A text, and how the run ended that told it. No such run ended for want of memory.
+#[derive(Drop)]
+pub(crate) struct Told {
+    pub(crate) text: Vec<u8>,
+    pub(crate) ended: Result<(), SimFault>,
+}
+
+/// Returns whether memory was refused.
+fn is_refused(ended: Result<(), SimFault>) -> bool
+    ensures { result ≡ is_refused ended }
+{
+    match ended {
+        Err(SimFault::OutOfMemory) => true,
+        Err(
+            SimFault::Argument
+            | SimFault::Script { .. }
+            | SimFault::Read
+            | SimFault::Write
+            | SimFault::BookFull
+            | SimFault::Failed,
+        )
+        | Ok(()) => false,
+    }
+}
+
+/// Takes a piece of a script, or its end where the piece is empty, and returns a text to which what
+/// that adds to the trace is added. A text in memory refuses a write only where memory is refused.
+#[tactic(auto, using(crate::proofs::Replayed::tells))]
+pub(crate) fn tell(
+    alloc: Global,
+    run: &mut TracedRun,
+    piece: &[u8],
+    text: Vec<u8>,
+) -> Result<Told, OutOfMemory>
+    ensures { IfOk result (λ t. Tells run.old piece.now run.new text.items t.text.items t.ended) }
+{
+    let Ok(mut sink) = Sink::new(alloc, text) else {
+        return Err(OutOfMemory);
+    };
+    let ended = run.take_piece(alloc, piece, &mut sink);
+    if sink.is_broken() || is_refused(ended) {
+        return Err(OutOfMemory);
+    }
+    Ok(Told {
+        text: sink.into_writer(),
+        ended,
+    })
+}

@@ -1,0 +1,67 @@
+/* mcs.h: the simulator as a library for C.
+ *
+ * Bytes in, bytes out: no call keeps anything, none calls back, and there is no global state, so
+ * several runs at once need no lock. Memory is taken by malloc and given back before a call
+ * returns. The functions are proved (docs/C.md says what), this header is not: it has to say what
+ * crates/mcs_c says.
+ *
+ * Each call writes as much of its text as there is room for at `out`, and how it ended at `end`. A
+ * buffer that is too small is filled to its end, and `end->length` is what the whole text needs:
+ * give so much room, and call again. `out` may be NULL only where `room` is 0. `out` and `end` lie
+ * in no memory that the call reads.
+ *
+ * Each call returns a number of this table:
+ *
+ *   0 MCS_OK         done, and all that was wanted holds
+ *   1 MCS_UNMET      done; something that is wanted does not hold (mcs_check)
+ *   2 MCS_REFUSED    a line is refused: end->line says which, end->fault why (docs/FORMS.md, K)
+ *   5 MCS_BOOK_FULL  the book is full at a step
+ *   6 MCS_NO_MEMORY  memory is refused: nothing is written, neither at `out` nor at `end`
+ *   7 MCS_WRONG      never; it would be a fault of the library
+ *
+ * After 2 and 5 the text is that of the lines before. end->line and end->fault are 0 but after 2.
+ */
+#ifndef MCS_H
+#define MCS_H
+
+#include <stddef.h>
+#include <stdint.h>
+
+#ifdef __cplusplus
+extern "C" {
+#endif
+
+enum {
+    MCS_OK = 0,
+    MCS_UNMET = 1,
+    MCS_REFUSED = 2,
+    MCS_BOOK_FULL = 5,
+    MCS_NO_MEMORY = 6,
+    MCS_WRONG = 7
+};
+
+typedef struct {
+    size_t length;  /* of the whole text */
+    uint64_t line;  /* that is refused, from 1 on; else 0 */
+    uint64_t fault; /* why it is refused, 1 to 9; else 0 */
+} mcs_end;
+
+/* Replays a script, as `mcssim replay` does. The text is its trace: the boot, and each step with
+ * its answer and its records. After 2 and 5 it is the trace of the steps before. */
+uint32_t mcs_replay(const uint8_t *script, size_t script_length,
+                    uint8_t *out, size_t room, mcs_end *end);
+
+/* Takes a line more, with its newline, after a script whose end has not come. The text is what the
+ * line adds to the trace: nothing for a line of the boot, a comment, or a step that is turned away;
+ * after the first step also the boot. A line of no bytes is the end of the input. The script is
+ * replayed for it, so that a run of n steps costs the square of n. A fault of the script before the
+ * line is that of the call. `line` may also hold several lines, or part of one. */
+uint32_t mcs_step(const uint8_t *script, size_t script_length,
+                  const uint8_t *line, size_t line_length,
+                  uint8_t *out, size_t room, mcs_end *end);
+
+#ifdef __cplusplus
+}
+#endif
+
+#endif

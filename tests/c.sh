@@ -1,0 +1,143 @@
+#!/bin/sh
+# The library for C, and seL4's calls over it: builds crates/mcs_c, compiles ports/ and runs its tests.
+#   sh tests/c.sh
+# Needs a C compiler (CC, or gcc, or clang); says what it skips. These are taken where they are set:
+#   LIBMCS  the archive of mcs_c, in the place of what `rt lib` builds (proved, which may take long)
+#   MCSSIM  the simulator, else crates/mcssim/out/mcssim; without it no trace is compared
+#   KIT     the kit's folder, else the one that `rt` is in
+#   STEPS   how many steps the script has by which the speed is measured (200000)
+set -u
+cd "$(dirname "$0")/.." || exit 1
+top=$PWD
+failed=0
+skipped=0
+fail() {
+    echo "FAILED: $*"
+    failed=$((failed + 1))
+}
+skip() {
+    echo "skipped: $*"
+    skipped=$((skipped + 1))
+}
+
+CC=${CC:-$(command -v gcc || command -v clang || true)}
+if [ -z "$CC" ]; then
+    skip "all tests of C: there is no C compiler"
+    exit 0
+fi
+KIT=${KIT:-$(dirname "$(dirname "$(readlink -f "$(command -v rt)")")")}
+HEAP=$KIT/c/liblibc_c.a
+LIBMCS=${LIBMCS:-$top/crates/mcs_c/out/libmcs_c.a}
+if [ ! -f "$LIBMCS" ]; then
+    (cd crates/mcs_c && rt lib) || exit 1
+fi
+MCSSIM=${MCSSIM:-$top/crates/mcssim/out/mcssim}
+[ -x "$MCSSIM" ] || skip "comparing with mcssim, which is not at $MCSSIM"
+
+room=$(mktemp -d)
+trap 'rm -rf "$room"' EXIT
+strict="-std=c11 -Wall -Wextra -Werror -I$top/ports/c -I$top/ports/sel4sim"
+
+# make NAME FLAGS: all programs of ports/, in a folder of that name
+make() {
+    to=$room/$1
+    flags="$strict $2"
+    mkdir -p "$to"
+    examples=$top/ports/sel4sim/examples
+    layer="$top/ports/sel4sim/sel4sim.c $LIBMCS $HEAP"
+    $CC $flags -o "$to/replay" ports/c/replay.c "$LIBMCS" "$HEAP" &&
+        $CC $flags -o "$to/calls" -Wl,--wrap=malloc -Wl,--wrap=realloc ports/c/calls.c "$LIBMCS" "$HEAP" &&
+        $CC $flags -o "$to/ten_lines" "$examples/ten_lines.c" $layer &&
+        $CC $flags -o "$to/layer" "$examples/layer.c" $layer &&
+        $CC $flags -o "$to/files" "$examples/files.c" $layer &&
+        $CC $flags -DMENDED -o "$to/mended" "$examples/files.c" $layer || return 1
+    for pd in counter asker watcher; do
+        $CC $flags "-DMICROKIT_PD=$pd" -c -o "$to/$pd.o" "$examples/$pd.c" || return 1
+    done
+    $CC $flags -o "$to/microkit" "$examples/microkit_system.c" ports/sel4sim/microkit_sim.c "$to"/*.o $layer
+}
+
+# replayed FILE: the simulator and the library give the same bytes and status, and so do single steps
+replayed() {
+    "$MCSSIM" replay <"$1" >"$room/want" 2>"$room/want.err"
+    want=$?
+    for how in "" steps; do
+        "$room/plain/replay" $how <"$1" >"$room/got" 2>"$room/got.err"
+        got=$?
+        cmp -s "$room/want" "$room/got" && [ $want = $got ] && cmp -s "$room/want.err" "$room/got.err" ||
+            fail "$1 $how: the library gives another trace, status or fault ($got, not $want)"
+    done
+}
+
+# back FILE: a trace that mcssim gives back byte for byte
+back() {
+    [ -x "$MCSSIM" ] || return 0
+    "$MCSSIM" replay <"$1" | cmp -s - "$1" || fail "$1: mcssim does not give the trace back"
+}
+
+# run NAME: the tests of one folder of programs
+run() {
+    to=$room/$1
+    "$to/calls" || fail "$1: the calls of mcs.h"
+    "$to/layer" || fail "$1: the layer"
+    "$to/ten_lines" || fail "$1: the test in ten lines"
+    "$to/microkit" || fail "$1: Microkit's handlers"
+    "$to/mended" || fail "$1: the mended server"
+    "$to/files" "$room/stuck.mcs" && fail "$1: no seed finds the deadlock"
+    back "$room/stuck.mcs"
+    "$to/files" explore 100 "$room/order.mcs" && fail "$1: no order finds the deadlock"
+    back "$room/order.mcs"
+}
+
+make plain -O2 || exit 1
+run plain
+if echo 'int main(void) { return 0; }' | $CC -fsanitize=address,undefined -x c -o "$room/probe" - 2>"$room/probe.err" && "$room/probe"; then
+    make checked "-O1 -g -fsanitize=address,undefined -fno-sanitize-recover=all" && ASAN_OPTIONS=detect_stack_use_after_return=0 run checked || fail "with sanitizers"
+else
+    skip "the sanitizers, which $CC does not have"
+fi
+if command -v valgrind >/dev/null; then
+    valgrind -q --error-exitcode=9 --leak-check=full "$room/plain/calls" || fail "under valgrind"
+else
+    skip "valgrind, which is not there"
+fi
+
+echo '#include <sel4/sel4.h>
+void seL4_Yield(void);
+int main(void) { seL4_Yield(); return 0; }' >"$room/yield.c"
+if $CC $strict -o "$room/yield" "$room/yield.c" ports/sel4sim/sel4sim.c "$LIBMCS" "$HEAP" 2>"$room/yield.err"; then
+    fail "a call that is not simulated links"
+else
+    grep -q 'seL4_Yield' "$room/yield.err" || fail "the linker does not name what is not simulated"
+fi
+
+if [ -x "$MCSSIM" ]; then
+    count=0
+    for file in $(find examples crates/mcs_test_examples/data -name '*.mcs' | sort); do
+        replayed "$file"
+        count=$((count + 1))
+    done
+    echo "$count scripts: compared with mcssim, whole and step by step"
+fi
+
+# Speed: the same script by both, in one run.
+steps=${STEPS:-200000}
+{
+    printf 'cores 1\ncnode 1\ncnode 2\nendpoint\nreply\ncontext 0\ncontext 0\n'
+    printf 'thread 10 255 c1 63 0 run s1\nthread 20 255 c2 62 0 run s2\nslot c1 1 e1 wp 42\nslot c2 1 e1 r 0\nslot c2 2 r1\n0 t2 recv 1 2\n'
+    awk -v n="$steps" 'BEGIN { for (i = 0; i < n / 2; i++) print "0 t1 call 1 7 5 6\n0 t2 replyrecv 1 2 7 5" }'
+} >"$room/long.mcs"
+seconds() {
+    python3 -c 'import os,subprocess,sys
+subprocess.run(sys.argv[2:], stdin=open(sys.argv[1]), stdout=subprocess.DEVNULL, check=True)
+t = os.times()
+print(f"{t.children_user + t.children_system:.2f}")' "$@"
+}
+report() {
+    [ -n "$2" ] && awk -v n="$steps" -v s="$2" -v what="$1" 'BEGIN { printf "%s: %d steps in %s s of a processor, %.0f steps a second\n", what, n, s, n / (s > 0 ? s : 0.01) }'
+}
+report "the library" "$(seconds "$room/long.mcs" "$room/plain/replay")"
+[ -x "$MCSSIM" ] && report "mcssim replay" "$(seconds "$room/long.mcs" "$MCSSIM" replay)"
+
+echo "$failed failed, $skipped skipped"
+[ $failed = 0 ]
