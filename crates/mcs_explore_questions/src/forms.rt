@@ -790,8 +790,8 @@ fn take_fields<'a>(
     Ok(())
 }
 
-/// The text of a pattern that was read, of which nothing is left, or a word for the rest. TooMany
-/// where another word is left.
+/// Returns the text of a pattern that was read, of which nothing is left, or a word for the rest.
+/// TooMany where another word is left.
 fn whole_of(
     alloc: Global,
     words: &mut Reader<'_>,

@@ -27,8 +27,8 @@ abbrev pub scene : Boot → List User → List Naming → List Label → Scene
 scene boot users names labels = record { boot = reverse boot.lines; users = users; names = names; labels = labels }
 
 -- what a text of users says, with these entries: its users, which have lists or programs, the names
--- of its objects, for each of its lines that ask something what its words ask, and the users that may
--- not get stuck
+-- of its objects, for each of its lines that ask something what its words ask, and the users that
+-- may not get stuck
 pub record SaysScript (text : List ℕ) (entries : List UserEntry) (s : UserScript) : Type 0 where
   pub given : List User
   pub labels : List Label
@@ -38,8 +38,8 @@ pub record SaysScript (text : List ℕ) (entries : List UserEntry) (s : UserScri
   pub asked : map said_by s.asked.items ≡ questions_from (scene s.boot given s.names labels) 1 (lines_of text)
   pub lives : s.lives.items ≡ lives_of s.users s.asked.items
 
--- all of an input was read, and this is what it says: its boot, its users, the names of its objects,
--- and what it asks
+-- all of an input was read, and this is what it says: its boot, its users, the names of its
+-- objects, and what it asks
 pub record IsScript (left left' : Option (List ℕ)) (s : UserScript) : Type 0 where
   pub text : List ℕ
   pub entries : List UserEntry

@@ -112,7 +112,11 @@ impl Numbered {
 /// Returns the text of users with the same lines, in which each question stands in the line in
 /// which the plan has it: so what is told of a question names that line. The other lines keep their
 /// order, and so do the questions; what a question means does not depend on where it stands.
-pub fn align_questions(alloc: Global, text: &[u8], numbers: &[u64]) -> Result<Numbered, AllocError> {
+pub fn align_questions(
+    alloc: Global,
+    text: &[u8],
+    numbers: &[u64],
+) -> Result<Numbered, AllocError> {
     let sorted = Sorted::new(alloc, text, numbers)?;
     let mut all = Numbered {
         text: Vec::new(alloc),
