@@ -22,13 +22,14 @@ struct Sorted<'a> {
     others: Vec<Line<'a>>,
 }
 
-/// Returns whether a line asks something of all orders: it begins with `#!`, and its first word
-/// behind that, if it has one, does not end with `:`, as that of a statement does.
+/// Returns whether a line asks something of all orders that is reported by its line: it begins with
+/// `#!`, and its first word behind that, if it has one, is not `idle` and does not end with `:`, as
+/// that of a statement does.
 fn is_question(line: &[u8]) -> bool {
     match line {
         [b'#', b'!', b' ', text @ ..] => {
             let word = text.split(|byte| *byte == b' ').next();
-            !word.is_some_and(|word| word.ends_with(b":"))
+            !word.is_some_and(|word| word == b"idle".as_slice() || word.ends_with(b":"))
         }
         [b'#', b'!', ..] => true,
         _ => false,
