@@ -120,7 +120,7 @@ static void refused(int steps) {
         mcs_end end = {9, 9, 9};
         memset(out, 'x', sizeof out);
         left = n;
-        uint32_t status = steps ? mcs_step(bytes(script), 300, bytes(script) + 300, sizeof script - 301, out, ROOM, &end)
+        uint32_t status = steps ? mcs_step(bytes(script), 200, bytes(script) + 200, sizeof script - 201, out, ROOM, &end)
                                 : mcs_replay(bytes(script), sizeof script - 1, out, ROOM, &end);
         left = NEVER;
         if (status == MCS_OK) {
