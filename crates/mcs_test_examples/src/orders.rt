@@ -41,6 +41,7 @@ pub const SCRIPTS: &[&str] = &[
     "programs/restarted.mcs",
     "microkit/files.mcs",
     "microkit/files-call-back.mcs",
+    "microkit/files-notified.mcs",
 ];
 
 /// Those that are explored once more with exact keys.

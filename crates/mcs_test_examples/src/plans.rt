@@ -36,6 +36,7 @@ const USERS: &[&str] = &[
     "programs/retry",
     "microkit/files",
     "microkit/files-call-back",
+    "microkit/files-notified",
 ];
 
 /// Plans with a fault, and what is reported of each.
