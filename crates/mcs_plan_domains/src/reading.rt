@@ -60,6 +60,21 @@ fn begins_entries(words: &[&str]) -> bool {
     }
 }
 
+/// Returns whether a line begins a domain or a channel: a thread of that name may have capabilities
+/// (`pd has ..`) or a step on a core (`pd on core 1: ..`).
+fn begins_system(words: &[&str]) -> bool {
+    match words {
+        [first, second, ..] => is_system(first) && *second != "has" && *second != "on",
+        [first] => is_system(first),
+        [] => false,
+    }
+}
+
+/// Returns whether a word begins a domain or a channel.
+fn is_system(word: &str) -> bool {
+    word == "pd" || word == "channel"
+}
+
 /// Reads when a handler runs, and what opens it.
 fn event_of(alloc: Global, statement: &Statement<'_>) -> Result<Event, Why> {
     let mut words = Cursor::new(alloc, &statement.words, 1);
@@ -257,9 +272,7 @@ impl<'a> Reader<'a> {
     /// Returns whether a line says nothing of domains.
     fn is_plain(&self, words: &[&str]) -> bool {
         match self.open {
-            Open::Plan => !words
-                .first()
-                .is_some_and(|word| *word == "pd" || *word == "channel"),
+            Open::Plan => !begins_system(words),
             Open::Domain | Open::Handler { .. } => false,
         }
     }
