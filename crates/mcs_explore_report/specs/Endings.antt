@@ -22,17 +22,21 @@ waits_for (Some (status.Queued queue)) = Some (queue_name queue)
 waits_for (Some (status.OnReply reply)) = Some reply
 waits_for _ = None
 
--- whether a question lets a user wait in this state for ever
-abbrev pub is_idle : List AskedLine → Standing → Bool
-is_idle questions s = list_any (λ (q : AskedLine). excuses q.asked s.thread (entry_of s)) questions
+-- whether a question excuses that the user waits in this entry
+abbrev pub is_excused : List AskedLine → Standing → Bool
+is_excused questions s = list_any (λ (q : AskedLine). excuses q.asked s.thread (entry_of s)) questions
 
--- whether each of these may
+-- whether a user waits for another, and a question lets it for ever
+abbrev pub is_idle : List AskedLine → Standing → Bool
+is_idle questions s = is_some (waits_for s.status) && is_excused questions s
+
+-- whether each of these does
 abbrev pub are_idle : List AskedLine → List Standing → Bool
 are_idle questions ss = list_all (is_idle questions) ss
 
 -- whether a user waits for another, and may not for ever
 abbrev pub is_deadlocked : List AskedLine → Standing → Bool
-is_deadlocked questions s = is_some (waits_for s.status) && not (is_idle questions s)
+is_deadlocked questions s = is_some (waits_for s.status) && not (is_excused questions s)
 
 -- how a run ends in which these are not done
 abbrev pub ending_of : List AskedLine → List Standing → Ending

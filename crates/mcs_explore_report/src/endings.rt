@@ -1,7 +1,7 @@
 //! How runs end: all users are done, some wait that may not, or entries are left.
 ghost use Rattle.std.specs.Prelude.{◌≡◌};
 ghost use Rattle.std.specs.List.{list_any};
-ghost use Rattle.mcs_explore_report.specs.Endings.{are_idle, ending_of, is_deadlocked, is_idle};
+ghost use Rattle.mcs_explore_report.specs.Endings.{are_idle, ending_of, is_deadlocked, is_excused, is_idle};
 
 use crate::ends::Standing;
 use mcs_explore_script::AskedLine;
@@ -28,9 +28,9 @@ impl Ending {
     }
 }
 
-/// Returns whether a question lets a user wait in this state for ever.
-pub fn is_idle(asked: &[AskedLine], standing: &Standing) -> bool
-    ensures { result ≡ is_idle asked.now standing.now }
+/// Returns whether a question excuses that the user waits in its entry.
+fn is_excused(asked: &[AskedLine], standing: &Standing) -> bool
+    ensures { result ≡ is_excused asked.now standing.now }
 {
     let number = standing.entry();
     asked
@@ -38,7 +38,14 @@ pub fn is_idle(asked: &[AskedLine], standing: &Standing) -> bool
         .any(|line| line.asked.excuses(standing.thread, number))
 }
 
-/// Returns whether each of these users may wait in its state for ever.
+/// Returns whether a user waits for another, and a question lets it wait for ever.
+pub fn is_idle(asked: &[AskedLine], standing: &Standing) -> bool
+    ensures { result ≡ is_idle asked.now standing.now }
+{
+    standing.is_waiting() && is_excused(asked, standing)
+}
+
+/// Returns whether each of these users does.
 pub fn are_idle(asked: &[AskedLine], standing: &[Standing]) -> bool
     ensures { result ≡ are_idle asked.now standing.now }
 {
@@ -49,7 +56,7 @@ pub fn are_idle(asked: &[AskedLine], standing: &[Standing]) -> bool
 fn is_deadlocked(asked: &[AskedLine], standing: &Standing) -> bool
     ensures { result ≡ is_deadlocked asked.now standing.now }
 {
-    standing.is_waiting() && !is_idle(asked, standing)
+    standing.is_waiting() && !is_excused(asked, standing)
 }
 
 /// Returns whether one of these users is.

@@ -27,7 +27,6 @@ mod writing;
 pub use feeding::ReplayRun;
 pub use laws::{fed_as_read, fed_in_pieces, replayed_legal, too_long_stands};
 pub use mcs_cores::{Gate, Open};
-pub use mcs_options::{Options, options};
 pub use mcs_phases::SimFault;
 pub use mcs_source::{ReadFault, Source};
 pub use mcs_trace::Sink;

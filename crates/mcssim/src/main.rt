@@ -5,9 +5,8 @@
 
 use clap::Error;
 use clap::error::ErrorKind;
-use mcs_sim::{
-    Open, Options, SimFault, Sink, Source, answer_status, arguments, options, run_text, simulate,
-};
+use mcs_options::{Options, options};
+use mcs_sim::{Open, SimFault, Sink, Source, answer_status, arguments, run_text, simulate};
 use std::alloc::{AllocError, AllocGlobal};
 use std::io::{self, Input, Print};
 use std::process::ExitCode;

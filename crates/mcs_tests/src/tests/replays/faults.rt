@@ -1,5 +1,6 @@
 //! What the program reports of its faults, its arguments and its command line.
-use mcs_sim::{Options, SimFault, answer_status, arguments, options};
+use mcs_options::{Options, options};
+use mcs_sim::{SimFault, answer_status, arguments};
 use mcs_text::LineFault;
 use std::alloc::Global;
 use std::env::{Env, FillError};
