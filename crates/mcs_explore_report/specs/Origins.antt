@@ -1,5 +1,6 @@
 -- By what an end names an object that a user made (own).
-use Rattle.std.specs.Prelude.{ℕ, ◌≡◌, ◌<◌, ◌≤◌, ◌+◌, Bool, true, false, cond, nat_lt, unwrap_or, List, Option, Some, None, Vec, length, slice_get}
+use Rattle.std.specs.Prelude.{ℕ, ◌≡◌, ◌<◌, ◌≤◌, ◌⊎◌, Bool, true, false, cond, nat_lt, is_none, List, [], Option, Some, None, Vec, length, slice_get}
+use Rattle.std.specs.List.{list_all}
 use Rattle.std.specs.declared.alloc.Global.{Global}
 use Rattle.mcs_types.specs.declared.id.Kind.TheVariants as kind
 use Rattle.mcs_types.specs.declared.id.ObjId.{ObjId}
@@ -40,3 +41,55 @@ HasNone R o c n = (i : ℕ) → i < n → has_cap R o c i ≡ false
 abbrev pub IsSlotIn : Log → ObjId → ObjId → Option Slot → Type 0
 IsSlotIn R o c None = HasNone R o c 256
 IsSlotIn R o c (Some s) = (s.cnode ≡ c) × ((has_cap R o c s.index ≡ true) × HasNone R o c s.index)
+
+-- the CNode that a boot makes in this place, from 1 on, and how many it makes
+abbrev pub cnode : ℕ → ObjId
+cnode n = record { kind = kind.CNode; serial = n }
+
+abbrev pub cnodes : Boot → ℕ
+cnodes boot = counted (makes_kind kind.CNode) (boot_log boot.lines)
+
+-- none of the first n CNodes has a slot with a capability to an object
+abbrev pub HaveNone : Log → ObjId → ℕ → Type 0
+HaveNone R o n = (c : ℕ) → 1 ≤ c → c ≤ n → HasNone R o (cnode c) 256
+
+-- the first slot with one is in the CNode of this number
+pub record IsFirstIn (boot : Boot) (R : Log) (o : ObjId) (s : Slot) (c : ℕ) : Type 0 where
+  pub least : 1 ≤ c
+  pub most : c ≤ cnodes boot
+  pub is : IsSlotIn R o (cnode c) (Some s)
+  pub before : (d : ℕ) → 1 ≤ d → d < c → HasNone R o (cnode d) 256
+
+-- the first slot with one, of the CNodes of the boot; none where none has
+abbrev pub IsFirstSlot : Boot → Log → ObjId → Option Slot → Type 0
+IsFirstSlot boot R o None = HaveNone R o (cnodes boot)
+IsFirstSlot boot R o (Some s) = (c : ℕ) × IsFirstIn boot R o s c
+
+-- an object that a user made is named so
+abbrev pub IsMadeOrigin : Boot → Log → ObjId → Origin → Type 0
+IsMadeOrigin boot R o origin.Boot = ⊥
+IsMadeOrigin boot R o (origin.Slot s) = IsFirstSlot boot R o (Some s)
+IsMadeOrigin boot R o origin.NoSlot = IsFirstSlot boot R o None
+
+-- the object that a user waits for is named so
+abbrev pub IsOrigin : Boot → Log → Standing → Origin → Type 0
+IsOrigin boot R s x = elim (made_object boot s) [ None ↦ x ≡ origin.Boot | Some o ↦ IsMadeOrigin boot R o x ]
+
+-- each of the first n of a list has one in a second list, and it is so
+pub record AreSo {A B : Type 0} (Is : A → B → Type 0) (xs : List A) (n : ℕ) (ys : List B) : Type 0 where
+  pub long : length ys ≡ n
+  pub each : (i : ℕ) (x : A) (y : B) → slice_get xs i ≡ Some x → slice_get ys i ≡ Some y → Is x y
+
+-- by what the objects of these users are named
+abbrev pub AreOrigins : Boot → Log → List Standing → List Origin → Type 0
+AreOrigins boot R ss origins = AreSo (IsOrigin boot R) ss (length ss) origins
+
+-- no list where the boot made all of them, and else one that names each in the state of this place
+abbrev pub IsNamed : {K : Type 0} → List User → Boot → Entries K Turn → Kind → List Origin → Type 0
+IsNamed users boot found k origins =
+    ((list_all (λ (s : Standing). is_none (made_object boot s)) k.standing ≡ true) × (origins ≡ []))
+    ⊎ ((g : Going) → IsAt users boot found k.place g → AreOrigins boot (log_of g.book) k.standing origins)
+
+-- by what those of all kinds of ends are
+abbrev pub AreNamed : {K : Type 0} → List User → Boot → Entries K Turn → List Kind → List (Vec Origin Global) → Type 0
+AreNamed users boot found kinds all = AreSo (λ k (v : Vec Origin Global). IsNamed users boot found k v.items) kinds (length kinds) all

@@ -1,9 +1,9 @@
 //! By what an end names objects: those that users made are named by slots, since states that differ
 //! in the numbers of such objects alone are merged.
-ghost use Rattle.std.specs.Prelude.{◌≡◌, is_none};
+ghost use Rattle.std.specs.Prelude.{◌≡◌, IfOk, is_none};
 ghost use Rattle.std.specs.List.{list_all};
 ghost use Rattle.mcs_book.specs.History.{log_of};
-ghost use Rattle.mcs_explore_report.specs.Origins.{IsSlotIn, has_cap, made_object, not_of_boot};
+ghost use Rattle.mcs_explore_report.specs.Origins.{AreNamed, AreOrigins, IsFirstSlot, IsNamed, IsOrigin, IsSlotIn, has_cap, made_object, not_of_boot};
 
 use crate::ends::{End, Standing};
 use crate::scripts::{turns_of, walk_by};
@@ -76,7 +76,9 @@ fn slot_in(kernel: &Kernel<PlainLines>, cnode: ObjId, object: ObjId) -> Option<S
 
 /// Returns the first slot with a capability to an object: that of the lowest CNode of the boot, and
 /// there the lowest.
-fn slot_of(boot: &Boot, kernel: &Kernel<PlainLines>, object: ObjId) -> Option<Slot> {
+fn slot_of(boot: &Boot, kernel: &Kernel<PlainLines>, object: ObjId) -> Option<Slot>
+    ensures { IsFirstSlot boot.now (log_of kernel.now) object result }
+{
     for serial in 1..=boot.made(Kind::CNode) {
         let cnode = ObjId {
             kind: Kind::CNode,
@@ -90,7 +92,9 @@ fn slot_of(boot: &Boot, kernel: &Kernel<PlainLines>, object: ObjId) -> Option<Sl
 }
 
 /// Returns by what an end names the object that a user waits for in a state.
-fn origin_of(boot: &Boot, kernel: &Kernel<PlainLines>, standing: &Standing) -> Origin {
+fn origin_of(boot: &Boot, kernel: &Kernel<PlainLines>, standing: &Standing) -> Origin
+    ensures { IsOrigin boot.now (log_of kernel.now) standing.now result }
+{
     let Some(object) = made_object(boot, standing) else {
         return Origin::Boot;
     };
@@ -107,7 +111,9 @@ fn origins_in(
     boot: &Boot,
     kernel: &Kernel<PlainLines>,
     standing: &[Standing],
-) -> Result<Vec<Origin>, AllocError> {
+) -> Result<Vec<Origin>, AllocError>
+    ensures { IfOk result (λ v. AreOrigins boot.now (log_of kernel.now) standing.now v.items) }
+{
     let mut origins = Vec::new(alloc);
     for place in 0..standing.len() {
         origins.push(origin_of(boot, kernel, &standing[place]))?;
@@ -129,7 +135,10 @@ fn origins_of<W: Watch>(
     script: &UserScript,
     orders: &Orders<'_, W>,
     end: &End,
-) -> Result<Vec<Origin>, LabFault> {
+) -> Result<Vec<Origin>, LabFault>
+    ensures { IfOk result (λ v. IsNamed script.now.users script.now.boot
+        orders.now.search.map.entries end.now v.items) }
+{
     if are_of_boot(&script.boot, &end.standing) {
         return Ok(Vec::new(alloc));
     }
@@ -144,7 +153,10 @@ pub fn all_origins<W: Watch>(
     script: &UserScript,
     orders: &Orders<'_, W>,
     ends: &[End],
-) -> Result<Vec<Vec<Origin>>, LabFault> {
+) -> Result<Vec<Vec<Origin>>, LabFault>
+    ensures { IfOk result (λ v. AreNamed script.now.users script.now.boot
+        orders.now.search.map.entries ends.now v.items) }
+{
     let mut all = Vec::new(alloc);
     for number in 0..ends.len() {
         all.push(origins_of(alloc, script, orders, &ends[number])?)?;
