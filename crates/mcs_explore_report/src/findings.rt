@@ -131,6 +131,20 @@ fn first_places<P: Progress>(
     Ok(places)
 }
 
+/// Returns the text of an entry of a thread, by its number from 1 on.
+pub fn entry_text(script: &UserScript, thread: ObjId, number: usize) -> &[u8] {
+    let mut count: usize = 0;
+    for said in script.texts.iter() {
+        if said.thread.is_same(thread) {
+            count = count.saturating_add(1);
+            if count == number {
+                return said.text.as_slice();
+            }
+        }
+    }
+    b""
+}
+
 impl<'a, P: Progress> Findings<'a, P> {
     /// Returns what was found in these orders, which go no deeper than this. BookFull and
     /// OutOfMemory as for a search.
@@ -226,20 +240,6 @@ impl<'a, P: Progress> Findings<'a, P> {
     pub fn steps(&self, seen: Sighting) -> usize {
         let steps = self.orders.depth(seen.place);
         steps.saturating_add(usize::from(seen.turn.is_some()))
-    }
-
-    /// Returns the text of an entry of a thread, by its number from 1 on.
-    pub fn entry_text(&self, thread: ObjId, number: usize) -> &'a [u8] {
-        let mut count: usize = 0;
-        for said in self.script.texts.iter() {
-            if said.thread.is_same(thread) {
-                count = count.saturating_add(1);
-                if count == number {
-                    return said.text.as_slice();
-                }
-            }
-        }
-        b""
     }
 
     /// Returns the answers of an entry, sorted by their texts.

@@ -1,7 +1,7 @@
 //! The report of a search as one document of JSON.
 use crate::endings::is_idle;
 use crate::ends::Standing;
-use crate::findings::{AnsweredEntry, Findings, Judged, KindOfEnd};
+use crate::findings::{AnsweredEntry, Findings, Judged, KindOfEnd, entry_text};
 use crate::frontier::count_of;
 use crate::judging::Sighting;
 use crate::report::Report;
@@ -80,7 +80,7 @@ fn put_standing<P: Progress>(
     put_thread(page, names, standing.thread);
     page.text_member("status", status_text(standing.status).as_bytes());
     page.count_member("entry", number);
-    page.text_member("text", findings.entry_text(standing.thread, number));
+    page.text_member("text", entry_text(findings.script, standing.thread, number));
     page.flag_member("left", standing.has_entries);
     page.flag_member("idle", is_idle(&findings.script.asked, standing));
     put_waits(page, names, standing.status);
@@ -238,7 +238,8 @@ fn put_entry<P: Progress>(page: &mut Page, findings: &Findings<'_, P>, entry: &A
     let event = entry.event;
     put_thread(page, &findings.script.names, event.thread);
     page.count_member("entry", event.number);
-    page.text_member("text", findings.entry_text(event.thread, event.number));
+    let text = entry_text(findings.script, event.thread, event.number);
+    page.text_member("text", text);
     if let Some(why) = entry.unanswered {
         page.text_member("unanswered", why.text().as_bytes());
     }

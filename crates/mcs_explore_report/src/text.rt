@@ -1,7 +1,7 @@
 //! The report of a search as text.
 use crate::endings::{Ending, is_idle};
 use crate::ends::Standing;
-use crate::findings::{Answered, AnsweredEntry, Findings, Judged, KindOfEnd};
+use crate::findings::{Answered, AnsweredEntry, Findings, Judged, KindOfEnd, entry_text};
 use crate::heading::put_head;
 use crate::outcomes::Outcome;
 use crate::report::{Explored, Report};
@@ -9,6 +9,7 @@ use crate::slots::Origin;
 use crate::stuck_users::{StuckUsers, seen_at};
 use crate::watching::Progress;
 use mcs_explore_questions::Event;
+use mcs_explore_script::{AskedLine, UserScript};
 use mcs_lab_check::{LabFault, Names};
 use mcs_lab_inspect::Page;
 use mcs_text::Token;
@@ -51,14 +52,9 @@ fn put_status(page: &mut Page, names: &Names, status: Option<Status>, origin: Or
     }
 }
 
-/// Puts a user of an end, and its state.
-fn put_standing<P: Progress>(
-    page: &mut Page,
-    findings: &Findings<'_, P>,
-    standing: &Standing,
-    origin: Origin,
-) {
-    let names = &findings.script.names;
+/// Puts a user of an end of a script's runs, and its state.
+pub fn put_standing(page: &mut Page, script: &UserScript, standing: &Standing, origin: Origin) {
+    let names = &script.names;
     let number = standing.entry();
     let place = if standing.is_waiting() {
         "in"
@@ -72,12 +68,12 @@ fn put_standing<P: Progress>(
     page.put(b" entry ");
     page.count(number);
     page.put(b" (");
-    page.escaped(findings.entry_text(standing.thread, number));
+    page.escaped(entry_text(script, standing.thread, number));
     page.put(b")");
     if standing.has_entries {
         page.put(b", with entries left");
     }
-    if is_idle(&findings.script.asked, standing) {
+    if is_idle(&script.asked, standing) {
         page.put(b" (idle)");
     }
     page.put(b"\n");
@@ -104,7 +100,7 @@ pub fn put_end<P: Progress>(
     for (place, standing) in end.standing.iter().enumerate() {
         page.put(mark.as_bytes());
         page.put(b"  ");
-        put_standing(page, findings, standing, kind.origin(place));
+        put_standing(page, findings.script, standing, kind.origin(place));
     }
 }
 
@@ -151,6 +147,14 @@ fn put_outcome(page: &mut Page, judged: &Judged<'_>, is_whole: bool) {
     }
 }
 
+/// Puts a question and the number of its line.
+pub fn put_asked(page: &mut Page, line: &AskedLine) {
+    page.put(b"question at line ");
+    page.number(line.line);
+    page.put(b": ");
+    page.escaped(line.text.as_slice());
+}
+
 /// Puts a question and what came of it, behind a mark.
 pub fn put_question<P: Progress>(
     page: &mut Page,
@@ -159,10 +163,7 @@ pub fn put_question<P: Progress>(
     judged: &Judged<'_>,
 ) {
     page.put(mark.as_bytes());
-    page.put(b"question at line ");
-    page.number(judged.line.line);
-    page.put(b": ");
-    page.escaped(judged.line.text.as_slice());
+    put_asked(page, judged.line);
     page.put(b": ");
     put_outcome(page, judged, findings.orders.is_whole());
     if let Some(seen) = judged.seen {
@@ -183,14 +184,18 @@ pub fn put_answer(page: &mut Page, names: &Names, event: Event, answer: &Answere
     page.put(b"\n");
 }
 
-/// Puts an entry with its text in the script, and its answers.
-fn put_entry<P: Progress>(page: &mut Page, findings: &Findings<'_, P>, entry: &AnsweredEntry) {
-    let event = entry.event;
-    page.object(&findings.script.names, event.thread);
+/// Puts an entry with its text in the script.
+pub fn put_event(page: &mut Page, script: &UserScript, event: Event) {
+    page.object(&script.names, event.thread);
     page.put(b" ");
     page.count(event.number);
     page.put(b": ");
-    page.escaped(findings.entry_text(event.thread, event.number));
+    page.escaped(entry_text(script, event.thread, event.number));
+}
+
+/// Puts an entry with its text in the script, and its answers.
+fn put_entry<P: Progress>(page: &mut Page, findings: &Findings<'_, P>, entry: &AnsweredEntry) {
+    put_event(page, findings.script, entry.event);
     page.put(b" ->");
     let mut between = " ";
     for answer in entry.answers.iter() {
