@@ -39,3 +39,6 @@ have-next R o n low none before = λ c least most. by c least most (same-or-not 
     by : (c : ℕ) → 1 ≤ c → c ≤ n → (c ≡ n) ⊎ (c ≡ n → ⊥) → HasNone R o (cnode c) 256
     by c least most (inl same) = subst (λ k. HasNone R o (cnode k) 256) (sym same) none
     by c least most (inr other) = before c least (omega (arith, most, other))
+
+pub have-to : (R : Log) (o : ObjId) (m n : ℕ) → m ≡ n → HaveNone R o m → HaveNone R o n
+have-to R o m n same have = subst (λ (k : ℕ). HaveNone R o k) same have

@@ -1,25 +1,17 @@
 -- By what an end names an object that a user made (own).
-use Rattle.std.specs.Prelude.{ℕ, ◌≡◌, ◌<◌, ◌≤◌, ◌⊎◌, Bool, true, false, cond, nat_lt, is_none, List, [], Option, Some, None, Vec, length, slice_get}
-use Rattle.std.specs.List.{list_all}
-use Rattle.std.specs.declared.alloc.Global.{Global}
+use Rattle.std.specs.Prelude.{ℕ, ◌≡◌, ◌<◌, ◌≤◌, Bool, true, false, cond, nat_lt, List, Option, Some, None, length, slice_get}
 use Rattle.mcs_types.specs.declared.id.Kind.TheVariants as kind
 use Rattle.mcs_types.specs.declared.id.ObjId.{ObjId}
 use Rattle.mcs_types.specs.Ids.{same}
 use Rattle.mcs_book.specs.Boots.{Boot, boot_log}
-use Rattle.mcs_book.specs.History.{log_of}
 use Rattle.mcs_book.specs.Logs.{Log, counted}
 use Rattle.mcs_book.specs.Objects.{makes_kind}
 use Rattle.mcs_book.specs.Slots.{slot}
-use Rattle.mcs_turns.specs.Turns.{User, Going}
-use Rattle.mcs_explore_search.specs.Search.{Entries}
-use Rattle.mcs_explore_walk.specs.declared.walk.Turn.{Turn}
 use Rattle.mcs_explore_report.specs.declared.ends.Standing.{Standing}
 use Rattle.mcs_explore_report.specs.declared.slots.Origin.{Origin}
 use Rattle.mcs_explore_report.specs.declared.slots.Origin.TheVariants as origin
 use Rattle.mcs_explore_report.specs.declared.slots.Slot.{Slot}
 use Rattle.mcs_explore_report.specs.Endings.{waits_for}
-use Rattle.mcs_explore_report.specs.Ends.{Kind}
-use Rattle.mcs_explore_report.specs.Found.{IsAt}
 
 -- an object, where the boot did not make it
 abbrev pub not_of_boot : Boot → ObjId → Option ObjId
@@ -83,13 +75,3 @@ pub record AreSo {A B : Type 0} (Is : A → B → Type 0) (xs : List A) (n : ℕ
 -- by what the objects of these users are named
 abbrev pub AreOrigins : Boot → Log → List Standing → List Origin → Type 0
 AreOrigins boot R ss origins = AreSo (IsOrigin boot R) ss (length ss) origins
-
--- no list where the boot made all of them, and else one that names each in the state of this place
-abbrev pub IsNamed : {K : Type 0} → List User → Boot → Entries K Turn → Kind → List Origin → Type 0
-IsNamed users boot found k origins =
-    ((list_all (λ (s : Standing). is_none (made_object boot s)) k.standing ≡ true) × (origins ≡ []))
-    ⊎ ((g : Going) → IsAt users boot found k.place g → AreOrigins boot (log_of g.book) k.standing origins)
-
--- by what those of all kinds of ends are
-abbrev pub AreNamed : {K : Type 0} → List User → Boot → Entries K Turn → List Kind → List (Vec Origin Global) → Type 0
-AreNamed users boot found kinds all = AreSo (λ k (v : Vec Origin Global). IsNamed users boot found k v.items) kinds (length kinds) all

