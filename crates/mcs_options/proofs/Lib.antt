@@ -1,7 +1,9 @@
+pub mod Found
 pub mod Leaves
 pub mod Line
 pub mod Refusals
-pub mod RunLevel
-pub mod RunWords
+pub mod Rows
 pub mod Taken
 pub mod Texts
+pub mod Told
+pub mod Turns

@@ -11,40 +11,27 @@ use Rattle.clap.specs.Faults.{check_fault, defaults_fault, entered_fault, fault_
 use Rattle.clap.specs.Faults.{step_fault, turn_fault, walk_fault}
 use Rattle.clap.proofs.FaultLemmas.{stopped_fault}
 use Rattle.clap.proofs.WalkLemmas.{walk_stopped}
-use Rattle.mcs_options.specs.Asked.{Asks, IsEnd}
+use Rattle.mcs_options.specs.Asked.{Asks, Choice, Says, command, meant, nothing_said}
 use Rattle.mcs_options.specs.CommandLine.{mcssim_line}
-use Rattle.mcs_options.specs.declared.choice.Options.{Options}
-use Rattle.mcs_options.specs.declared.choice.Options.TheVariants.{Replay, Run}
-use Rattle.mcs_options.proofs.Leaves.{between, ended, fault_from, fault_from-cons, line, nothing_after, replay_shape, run_shape}
+use Rattle.mcs_options.proofs.Leaves.{between, fault_from, line, shape}
 use Rattle.mcs_options.proofs.Refusals.{AllRequests, not_none, or_else-first, word_ends}
-use Rattle.mcs_options.proofs.RunLevel.{run_says}
+use Rattle.mcs_options.proofs.Rows.{Holds}
+use Rattle.mcs_options.proofs.Told.{talks}
 
 -- before the first word
 abbrev pub start : Walk
-start = between nothing_held idle
+start = between nothing_held idle None
 
--- ---- the words after `replay`
+-- no row holds that nothing is said
+pub holds_nothing : (is_run : Bool) → Holds [] (nothing_said is_run)
+holds_nothing true = record { task = refl; file = refl; explain = refl }
+holds_nothing false = record { task = refl; file = refl; explain = refl }
 
-replay_asks : AllRequests replay_shape.rules
-replay_asks = ((refl, λ again rows e. not_none _ _ e), tt)
-
-replay_stray : step_fault replay_shape 1 nothing_held value ≡ [] → ⊥
-replay_stray e = not_none _ _ e
-
-replay_word : (word : Text) → turn_fault replay_shape [] start word ≡ [] → word ≡ codes "--"
-replay_word word e = word_ends replay_shape [] None word replay_asks replay_stray e
-
-pub replay_says : (rest : List Text) → fault_from replay_shape start rest ≡ [] → IsEnd rest
-unfolding walked
-replay_says [] e = inl refl
-replay_says (word ∷ rest) e =
-    let parts = fault_from-cons replay_shape start word rest e in
-    let dashes = replay_word word parts.0 in
-    let after : walked replay_shape.rules [] start word ≡ ended nothing_held idle = ap (walked replay_shape.rules [] start)
-    dashes in
-    let none = nothing_after replay_shape nothing_held idle rest replay_stray
-    (subst (λ w. fault_from replay_shape w rest ≡ []) after parts.1) in
-    inr cc
+-- the words after a command that are not refused
+says : (is_run : Bool) (rest : List Text) → fault_from (shape is_run) start rest ≡ []
+    → (said : Choice) × Says (nothing_said is_run) rest said
+says true rest e = talks rest true (nothing_said true) [] None refl (holds_nothing true) e
+says false rest e = talks rest false (nothing_said false) [] None refl (holds_nothing false) e
 
 -- ---- the program's own words
 
@@ -61,18 +48,14 @@ line_end w = or_else (entered_fault line w.stopped) (or_else (settle_fault line.
 abbrev stopped_at : Text → List Text → Walk
 stopped_at name rest = record start { stopped = Some (name, rest) }
 
-pub run_fault : (name : Text) (rest : List Text) → fault_of mcssim_line (name ∷ codes "run" ∷ rest)
-    ≡ or_else (fault_from run_shape start rest) []
+pub command_fault : (is_run : Bool) (name : Text) (rest : List Text) → fault_of mcssim_line (name ∷ command is_run ∷ rest)
+    ≡ or_else (fault_from (shape is_run) start rest) []
 unfolding walked walk_fault defaults_fault
-run_fault name rest =
+command_fault true name rest =
     ap (λ k. or_else k (line_end (fold (walked line.top.rules names) (stopped_at (codes "run") []) rest)))
     (stopped_fault line.top names start (codes "run", []) rest)
     ∙ ap line_end (sym (walk_stopped line.top.rules names start (codes "run") [] rest))
-
-pub replay_fault : (name : Text) (rest : List Text) → fault_of mcssim_line (name ∷ codes "replay" ∷ rest)
-    ≡ or_else (fault_from replay_shape start rest) []
-unfolding walked walk_fault defaults_fault
-replay_fault name rest =
+command_fault false name rest =
     ap (λ k. or_else k (line_end (fold (walked line.top.rules names) (stopped_at (codes "replay") []) rest)))
     (stopped_fault line.top names start (codes "replay", []) rest)
     ∙ ap line_end (sym (walk_stopped line.top.rules names start (codes "replay") [] rest))
@@ -120,21 +103,23 @@ no_command name [] e = not_none _ _ e
 no_command name (word ∷ rest) e = not_none _ _ e
 
 -- the words that are not refused ask for something
-pub asks : (words : List Text) → fault_of mcssim_line words ≡ [] → (choice : Options) × Asks words choice
+pub asks : (words : List Text) → fault_of mcssim_line words ≡ [] → (choice : Choice) × Asks words choice
 unfolding walked walk_fault defaults_fault
 asks [] e = absurd (not_none _ _ e)
 asks (name ∷ []) e = absurd (not_none _ _ e)
 asks (name ∷ word ∷ rest) e = go (first_word word (or_else-first _ _ (or_else-first _ _ e)))
   where
-    at_word : (command : Text) → word ≡ command → fault_of mcssim_line (name ∷ command ∷ rest) ≡ []
-    at_word command is = subst (λ w. fault_of mcssim_line (name ∷ w ∷ rest) ≡ []) is e
+    at_word : (first : Text) → word ≡ first → fault_of mcssim_line (name ∷ first ∷ rest) ≡ []
+    at_word first is = subst (λ w. fault_of mcssim_line (name ∷ w ∷ rest) ≡ []) is e
+
+    of : (is_run : Bool) → word ≡ command is_run → (choice : Choice) × Asks (name ∷ word ∷ rest) choice
+    of is_run is =
+        let passes = or_else-first _ _ (sym (command_fault is_run name rest) ∙ at_word (command is_run) is) in
+        let found = says is_run rest passes in
+        (meant found.0, (is_run, rest, found.0, (name, ap (λ w. name ∷ w ∷ rest) is), found.1, refl))
 
     go : (word ≡ codes "replay") ⊎ ((word ≡ codes "run") ⊎ (word ≡ codes "--"))
-        → (choice : Options) × Asks (name ∷ word ∷ rest) choice
-    go (inl is) =
-        let end = replay_says rest (or_else-first _ _ (sym (replay_fault name rest) ∙ at_word (codes "replay") is)) in
-        (Replay, (rest, (name, ap (λ w. name ∷ w ∷ rest) is), end))
-    go (inr (inl is)) =
-        let says = run_says rest (or_else-first _ _ (sym (run_fault name rest) ∙ at_word (codes "run") is)) in
-        (Run says.0, (rest, (name, ap (λ w. name ∷ w ∷ rest) is), says.1))
+        → (choice : Choice) × Asks (name ∷ word ∷ rest) choice
+    go (inl is) = of false is
+    go (inr (inl is)) = of true is
     go (inr (inr is)) = absurd (no_command name rest (at_word (codes "--") is))

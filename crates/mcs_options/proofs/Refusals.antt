@@ -75,7 +75,7 @@ pub long_refused : (c : List Rule) (again : Bool) (o : Option Rule) (v : Option 
 long_refused c again None v h is e = not_none _ _ e
 long_refused c again (Some a) v h is e = flag_refused c again a v h is (rw is.0 at e)
 
-short_refused : (c : List Rule) (again : Bool) (o : Option Rule) (rest : Text) (h : Held) (next : Held → Kinds) → OnlyRequest o
+pub short_refused : (c : List Rule) (again : Bool) (o : Option Rule) (rest : Text) (h : Held) (next : Held → Kinds) → OnlyRequest o
     → short_fault c again o rest h next ≡ [] → ⊥
 short_refused c again None rest h next is e = not_none _ _ e
 short_refused c again (Some a) rest h next is e = react_refused c again a h is (or_else-first _ _ (rw is.0 at e))

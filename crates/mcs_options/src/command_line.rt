@@ -1,12 +1,14 @@
 //! What the command line asks for.
-ghost use Rattle.std.specs.Prelude.{◌≡◌, ℕ, Some, None, IfOk, IfErr, IsErrAnd, false, map, codes};
-ghost use Rattle.clap.specs.Words.{FailsBy, app_of, fault_of, rule_of, subcommand_rows_of};
-ghost use Rattle.mcs_options.specs.Asked.{Asks, Gives, IsChoice, IsChosen, IsCoreCount};
-ghost use Rattle.mcs_options.specs.CommandLine.{AsksFor, AsksForCores, IsLocal, IsMemory, IsVersion, cores_option};
-ghost use Rattle.mcs_options.specs.CommandLine.{mcssim_line, run_line};
+ghost use Rattle.std.specs.Prelude.{◌≡◌, ◌≢◌, ℕ, List, Some, None, IfOk, IfErr, IsErrAnd, false, map, codes, option_map};
+ghost use Rattle.clap.specs.Words.{FailsBy, app_of, fault_of, found_of, rows_of, rule_of, subcommand_rows_of};
+ghost use Rattle.mcs_options.specs.Asked.{Asks, Choice, Gives, IsChoice, IsChosen, IsCoreCount, IsFile, IsTask};
+ghost use Rattle.mcs_options.specs.Asked.{choice_of, named, of_file, replays, runs};
+ghost use Rattle.mcs_options.specs.CommandLine.{AsksFor, AsksForCores, AsksForFile, IsLocal, IsMemory, IsVersion};
+ghost use Rattle.mcs_options.specs.CommandLine.{cores_option, explain_option, file_argument};
+ghost use Rattle.mcs_options.specs.CommandLine.{mcssim_line, replay_line, run_line};
 
-use crate::choice::Options;
-use clap::{Arg, ArgMatches, Command, Error, value_parser};
+use crate::choice::{Options, Task};
+use clap::{Arg, ArgAction, ArgMatches, Command, Error, value_parser};
 use mcs_types::CORES;
 use std::alloc::Global;
 
@@ -25,6 +27,38 @@ fn cores<'a>(alloc: Global) -> Arg<'a>
         .value_parser(value_parser!(u8).range(1..=i64::from(CORES)))
 }
 
+/// The option that has a fault told in words, too.
+fn explain<'a>(alloc: Global) -> Arg<'a>
+    ensures rule { rule_of result ≡ explain_option }
+    ensures local { result.global ≡ false }
+{
+    Arg::new(alloc, "explain")
+        .long("explain")
+        .help("Tell a fault in words, too, on a second line")
+        .action(ArgAction::SetTrue)
+}
+
+/// The file that is read.
+fn file<'a>(alloc: Global) -> Arg<'a>
+    ensures rule { rule_of result ≡ file_argument }
+    ensures local { result.global ≡ false }
+{
+    Arg::new(alloc, "file")
+        .value_name("FILE")
+        .help("The file to read, or - for standard input [default: -]")
+}
+
+/// The command that takes the steps of a script.
+fn replay<'a>(alloc: Global) -> Result<Command<'a>, Error>
+    ensures line { IfOk result (λ c. app_of c ≡ replay_line) }
+    ensures local { IfOk result IsLocal }
+    ensures memory { IfErr result IsMemory }
+{
+    let about = "Reads a script, and writes its trace to standard output";
+    let command = Command::new(alloc, "replay").about(about);
+    Ok(command.arg(explain(alloc))?.arg(file(alloc))?)
+}
+
 /// The command that runs the users of a script.
 fn run<'a>(alloc: Global) -> Result<Command<'a>, Error>
     ensures line { IfOk result (λ c. app_of c ≡ run_line) }
@@ -32,9 +66,15 @@ fn run<'a>(alloc: Global) -> Result<Command<'a>, Error>
     ensures memory { IfErr result IsMemory }
 {
     let about =
-        "Reads a boot and its users from standard input, runs them on one host thread for each core, \
-        and writes the trace of the book to standard output";
-    Ok(Command::new(alloc, "run").about(about).arg(cores(alloc))?)
+        "Reads a boot and its users, runs them on one host thread for each core, and writes the \
+        trace of the book to standard output";
+    let command = Command::new(alloc, "run").about(about);
+    Ok(
+        command
+            .arg(cores(alloc))?
+            .arg(explain(alloc))?
+            .arg(file(alloc))?,
+    )
 }
 
 /// The program's commands.
@@ -42,28 +82,54 @@ fn commands<'a>(alloc: Global) -> Result<Command<'a>, Error>
     ensures line { IfOk result (λ c. app_of c ≡ mcssim_line) }
     ensures memory { IfErr result IsMemory }
 {
-    let replay = Command::new(alloc, "replay").about(
-        "Reads a script from standard input, and writes its trace to standard output",
-    );
     Ok(
         Command::new(alloc, "mcssim")
             .version(VERSION)
             .about("Simulates the message passing of seL4 MCS")
             .subcommand_required(true)
-            .subcommand(replay)?
+            .subcommand(replay(alloc)?)?
             .subcommand(run(alloc)?)?,
     )
 }
 
-/// What a line that was taken asks for, by what was found in it.
-fn chosen(matches: &ArgMatches<'_>) -> Options
-    ensures { IsChosen (subcommand_rows_of matches.now) result }
+/// What a command does, by its name and what was found in its words.
+fn task(name: &str, found: &ArgMatches<'_>) -> Task
+    ensures { IsTask name.now (rows_of (found_of found.now)) result }
 {
-    match matches.subcommand_matches("run") {
-        Some(run) => Options::Run {
-            cores: run.get_one("cores"),
+    if name == "run" {
+        Task::Run {
+            cores: found.get_one("cores"),
+        }
+    } else {
+        Task::Replay
+    }
+}
+
+/// The file that a word names, where there is one: `-` is the standard input.
+fn named<'a>(word: Option<&'a str>) -> Option<&'a str>
+    ensures { option_map (λ f. f.now) result ≡ named (option_map (λ w. w.now) word.entry) }
+{
+    match word {
+        Some("-") => None,
+        _ => word,
+    }
+}
+
+/// What a line that was taken asks for, by what was found in it.
+fn chosen<'a>(matches: &ArgMatches<'a>) -> Options<'a>
+    ensures { IsChosen (subcommand_rows_of matches.now) (choice_of result) }
+{
+    match matches.subcommand() {
+        Some((name, found)) => Options {
+            task: task(name, found),
+            file: named(found.get_str("file")),
+            explain: found.get_flag("explain"),
         },
-        None => Options::Replay,
+        None => Options {
+            task: Task::Replay,
+            file: None,
+            explain: false,
+        },
     }
 }
 
@@ -71,18 +137,20 @@ fn chosen(matches: &ArgMatches<'_>) -> Options
 /// is wrong with them, or has the help or the version that was asked for: it is of a kind that the
 /// rules of the command line give these words, or tells that there was no memory; and where they
 /// give a kind it comes.
-pub fn options<'a>(alloc: Global, words: &'a [&'a str]) -> Result<Options, Error>
+pub fn options<'a>(alloc: Global, words: &'a [&'a str]) -> Result<Options<'a>, Error>
     // What is given is what the words ask for, and what they ask for is given.
-    ensures asked { IfOk result (Asks (map (λ w. w.now) words.entry.now)) }
-    ensures given { (choice : Options) → Asks (map (λ w. w.now) words.entry.now) choice
+    ensures asked { IfOk result (λ given. Asks (map (λ w. w.now) words.entry.now) (choice_of given)) }
+    ensures given { (choice : Choice) → Asks (map (λ w. w.now) words.entry.now) choice
         → Gives choice result }
-    ensures choice { IfOk result IsChoice }
+    ensures choice { IfOk result (λ given. IsChoice given.task) }
 
     // So it is for the plain lines.
-    ensures replay { AsksFor words.entry.now (codes "replay") → Gives Options.Replay result }
-    ensures run { AsksFor words.entry.now (codes "run") → Gives (Options.Run None) result }
+    ensures replay { AsksFor words.entry.now (codes "replay") → Gives replays result }
+    ensures run { AsksFor words.entry.now (codes "run") → Gives (runs None) result }
     ensures cores { (n : ℕ) → IsCoreCount n → AsksForCores words.entry.now n
-        → Gives (Options.Run (Some n)) result }
+        → Gives (runs (Some n)) result }
+    ensures file { (name : List ℕ) → IsFile name → name ≢ codes "-"
+        → AsksForFile words.entry.now name → Gives (of_file name replays) result }
     ensures version { AsksFor words.entry.now (codes "--version") → IsErrAnd result IsVersion }
 
     ensures fails { FailsBy (fault_of mcssim_line (map (λ w. w.now) words.entry.now)) result }

@@ -1,43 +1,46 @@
-//! The program: `mcssim replay` reads a script of steps from standard input and writes its trace to
-//! standard output, and `mcssim run` a script of users, which it runs on a host thread for each
-//! core.
+//! The program: `mcssim replay` takes the steps of a script and writes its trace to standard
+//! output, and `mcssim run` runs a script of users on a host thread for each core. The script is
+//! that of a file, or of standard input.
 #![tactic(auto)]
 
-use clap::Error;
-use clap::error::ErrorKind;
-use mcs_options::{Options, options};
-use mcs_sim::{Open, SimFault, Sink, Source, answer_status, arguments, run_text, simulate};
+mod input;
+mod telling;
+
+use input::open;
+use mcs_options::{Options, Task, options};
+use mcs_sim::{Open, SimFault, Sink, Source, arguments, run_text, simulate};
 use std::alloc::{AllocError, AllocGlobal};
-use std::io::{self, Input, Print};
+use std::io::{self, Print, Read};
 use std::process::ExitCode;
 use std::sync::Wait;
 use std::thread::Threads;
+use telling::{explain, tell, tell_answer, tell_unopened};
 
-fn tell(rt: &HostRuntime, fault: SimFault) -> ExitCode {
-    let _ = rt.eprintln(fault);
-    ExitCode::from(fault.status())
-}
-
-fn tell_answer(rt: &HostRuntime, answer: &Error) -> ExitCode {
-    if answer.kind() == ErrorKind::OutOfMemory {
-        return tell(rt, SimFault::OutOfMemory);
-    }
-    let _ = answer.print(rt);
-    ExitCode::from(answer_status(answer))
-}
-
-fn carry_out<R: AllocGlobal + Input + Print + Threads + Wait + Sync>(
+fn carry_out<R: AllocGlobal + Print + Threads + Wait + Sync, I: Read + Drop>(
     rt: &R,
-    asked: Options,
+    task: Task,
+    from: I,
 ) -> Result<(), SimFault> {
-    let mut source = Source::new(rt.reader());
+    let mut source = Source::new(from);
     let Ok(mut sink) = Sink::new(rt.alloc(), io::writer(rt)) else {
         return Err(SimFault::OutOfMemory);
     };
-    match asked {
-        Options::Replay => simulate(rt.alloc(), &mut source, &mut sink),
-        Options::Run { cores } => run_text(rt, &mut source, &mut sink, cores, &Open),
+    match task {
+        Task::Replay => simulate(rt.alloc(), &mut source, &mut sink),
+        Task::Run { cores } => run_text(rt, &mut source, &mut sink, cores, &Open),
     }
+}
+
+/// Tells the fault of a run, where there is one, and returns the exit status.
+fn ended(rt: &HostRuntime, asked: &Options<'_>, done: Result<(), SimFault>) -> ExitCode {
+    let Err(fault) = done else {
+        return ExitCode::SUCCESS;
+    };
+    let status = tell(rt, fault);
+    if asked.explain {
+        explain(rt, fault);
+    }
+    status
 }
 
 fn texts<'a>(rt: &HostRuntime, words: &'a [String]) -> Result<Vec<&'a str>, AllocError> {
@@ -52,11 +55,16 @@ fn main(rt: HostRuntime) -> ExitCode {
     let Ok(texts) = texts(&rt, &words) else {
         return tell(&rt, SimFault::OutOfMemory);
     };
-    match options(rt.alloc(), &texts) {
-        Ok(asked) => match carry_out(&rt, asked) {
-            Ok(()) => ExitCode::SUCCESS,
-            Err(fault) => tell(&rt, fault),
+    let asked = match options(rt.alloc(), &texts) {
+        Ok(asked) => asked,
+        Err(answer) => return tell_answer(&rt, &answer),
+    };
+    let done = match asked.file {
+        None => carry_out(&rt, asked.task, rt.reader()),
+        Some(path) => match open(&rt, path) {
+            Ok(file) => carry_out(&rt, asked.task, file),
+            Err(error) => return tell_unopened(&rt, path, &error),
         },
-        Err(answer) => tell_answer(&rt, &answer),
-    }
+    };
+    ended(&rt, &asked, done)
 }

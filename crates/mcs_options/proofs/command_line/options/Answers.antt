@@ -1,7 +1,9 @@
-use Rattle.std.proofs.Common.{ap, refl, sym, subst, ◌≡◌, ◌∙◌, ◌<◌, ◌^◌, inl, inr, arith, codes, true, map, ℕ, List, []}
+use Rattle.std.proofs.Common.{ap, refl, sym, subst, ◌≡◌, ◌≢◌, ◌∙◌, ◌<◌, ◌^◌, inl, inr, arith, codes, cond, Bool, true, false, map, ℕ, List, []}
 use Rattle.std.proofs.Common.{◌∷◌, Result, Ok, Err}
 use Rattle.std.specs.Prelude.{IsErrAnd, Some, None, decimal}
 use Rattle.std.specs.Borrow.{Bor}
+use Rattle.std.specs.Str.{bytes_eq}
+use Rattle.std.proofs.lemmas.Slice.Eq.{bytes_eq-Decides}
 use Rattle.std.proofs.lemmas.Fmt.{decimal_is_IsNumeral}
 use Rattle.std.proofs.lemmas.Str.Parse.{digit_at, without_leading_plus_none}
 use Rattle.clap.specs.declared.error.Error.{Error}
@@ -10,13 +12,13 @@ use Rattle.clap.specs.declared.parser.ArgMatches.{ArgMatches}
 use Rattle.clap.specs.Words.{App, HasKind, HasMatchesOf, Text, fault_of, is_simple, is_simple_and_free, subcommand_of}
 use Rattle.clap.specs.Words.{subcommand_rows_of}
 use Rattle.clap.proofs.OnLiterals.{clap_on_literals}
-use Rattle.mcs_options.specs.Asked.{Asks, Gives, IsChoice, IsChosen, IsCoreCount, Writes}
-use Rattle.mcs_options.specs.CommandLine.{AsksFor, AsksForCores, IsMemory, IsVersion, mcssim_line}
+use Rattle.mcs_options.specs.Asked.{Asks, Choice, Gives, IsChoice, IsChosen, IsCoreCount, IsFile, Says, Writes, choice_of, counts, ends}
+use Rattle.mcs_options.specs.Asked.{ends_with, explains, named, names, nothing_said, of_file, replays, runs}
+use Rattle.mcs_options.specs.CommandLine.{AsksFor, AsksForCores, AsksForFile, IsMemory, IsVersion, mcssim_line}
 use Rattle.mcs_options.specs.declared.choice.Options.{Options}
-use Rattle.mcs_options.specs.declared.choice.Options.TheVariants.{Replay, Run}
+use Rattle.mcs_options.proofs.Found.{chosen, no_fault}
 use Rattle.mcs_options.proofs.Line.{asks}
 use Rattle.mcs_options.proofs.Refusals.{not_none}
-use Rattle.mcs_options.proofs.Taken.{chosen, no_fault}
 use Rattle.mcs_options.proofs.command_line.options.Goals as goal
 
 -- no rule of the command line is on another
@@ -35,11 +37,30 @@ version_kinds name = refl
 
 -- ---- what the plain lines ask for
 
-asks_replay : (words : List (Bor Text)) → AsksFor words (codes "replay") → Asks (map (λ w. w.now) words) Replay
-asks_replay words asked = ([], asked, inl refl)
+asks_replay : (words : List (Bor Text)) → AsksFor words (codes "replay") → Asks (map (λ w. w.now) words) replays
+asks_replay words asked = (false, [], replays, asked, ends (inl refl), refl)
 
-asks_run : (words : List (Bor Text)) → AsksFor words (codes "run") → Asks (map (λ w. w.now) words) (Run None)
-asks_run words asked = ([], asked, inl refl)
+asks_run : (words : List (Bor Text)) → AsksFor words (codes "run") → Asks (map (λ w. w.now) words) (runs None)
+asks_run words asked = (true, [], runs None, asked, ends (inl refl), refl)
+
+-- a word that is not `-` is the file that it names
+named_is : (name : Text) → name ≢ codes "-" → Some name ≡ named (Some name)
+named_is name other = go (bytes_eq name (codes "-")) refl
+  where
+    go : (b : Bool) → bytes_eq name (codes "-") ≡ b → Some name ≡ cond b None (Some name)
+    go true is = absurd (other ((bytes_eq-Decides name (codes "-")).0 is))
+    go false is = refl
+
+asks_file : (words : List (Bor Text)) (name : Text) → IsFile name → name ≢ codes "-" → AsksForFile words name
+    → Asks (map (λ w. w.now) words) (of_file name replays)
+asks_file words name is other asked = (
+  false,
+  name ∷ [],
+  of_file name replays,
+  asked,
+  names name [] refl is refl (ends (inl refl)),
+  ap (λ f. record replays { file = f }) (named_is name other),
+)
 
 -- a number in decimal writes it
 decimal_writes : (n : ℕ) → IsCoreCount n → Writes (decimal n) n
@@ -51,19 +72,35 @@ decimal_writes n count =
     rw plain is
 
 asks_cores : (words : List (Bor Text)) (n : ℕ) → IsCoreCount n → AsksForCores words n
-    → Asks (map (λ w. w.now) words) (Run (Some n))
-asks_cores words n count asked = (_, (asked.0, asked.1), (decimal n, [], inl refl, decimal_writes n count, count, inl refl))
+    → Asks (map (λ w. w.now) words) (runs (Some n))
+asks_cores words n count asked = (
+  true,
+  codes "--cores" ∷ decimal n ∷ [],
+  runs (Some n),
+  asked,
+  counts (decimal n) [] n (inl refl) (decimal_writes n count) count refl (ends (inl refl)),
+  refl,
+)
 
 -- ---- what the line gives
 
 -- what is asked for has a number of cores that a machine may have
-is_choice : (words : List Text) (choice : Options) → Asks words choice → IsChoice choice
-is_choice words Replay asked = tt
-is_choice words (Run None) asked = tt
-is_choice words (Run (Some n)) asked = asked.2.4
+said_counts : {c : Choice} {words : List Text} {said : Choice} → Says c words said → IsChoice c.task → IsChoice said.task
+said_counts (ends end) is = is
+said_counts (ends_with name are none) is = is
+said_counts (names name rest are file none more) is = said_counts more is
+said_counts (explains rest are unsaid more) is = said_counts more is
+said_counts (counts text rest n give writes count task more) is = said_counts more count
+
+is_choice : (words : List Text) (choice : Choice) → Asks words choice → IsChoice choice.task
+is_choice words choice asked = subst (λ t. IsChoice t) (ap (λ (c : Choice). c.task) (sym asked.5)) (go asked.0 asked.4)
+  where
+    go : (is_run : Bool) → Says (nothing_said is_run) asked.1 asked.2 → IsChoice asked.2.task
+    go true says = said_counts says tt
+    go false says = said_counts says tt
 
 -- what is given of a line that was not refused is what it asks for
-found_asked : (words : List Text) (found : Options) → fault_of mcssim_line words ≡ []
+found_asked : (words : List Text) (found : Choice) → fault_of mcssim_line words ≡ []
     → IsChosen (subcommand_of mcssim_line words) found → Asks words found
 found_asked words found passes is =
     let one = asks words passes in
@@ -79,7 +116,7 @@ none_failed : (a : App) (words : List Text) → a ≡ mcssim_line → (is_simple
     → fault_of mcssim_line words ≡ []
 none_failed a words line kinds = subst (λ b. fault_of b words ≡ []) line (kinds (ap is_simple_and_free line ∙ is_plain_line))
 
-found_is : (a : App) (words : List Text) (m : ArgMatches) (found : Options) → a ≡ mcssim_line → HasMatchesOf a words m
+found_is : (a : App) (words : List Text) (m : ArgMatches) (found : Choice) → a ≡ mcssim_line → HasMatchesOf a words m
     → IsChosen (subcommand_rows_of m) found
     → IsChosen (subcommand_of mcssim_line words) found
 found_is a words m found line matches is =
@@ -88,7 +125,7 @@ found_is a words m found line matches is =
 
 -- an error that a line gives, by the kinds that it has: what is asked for was not given for want of
 -- memory alone
-refused_given : (words : List Text) (e : Error) → HasKind (fault_of mcssim_line words) e → (choice : Options)
+refused_given : (words : List Text) (e : Error) → HasKind (fault_of mcssim_line words) e → (choice : Choice)
     → Asks words choice → IsMemory e
 refused_given words e has choice asked = go (subst (λ kinds. HasKind kinds e) (no_fault words choice asked) has)
   where
@@ -105,7 +142,7 @@ no_version : (words : List (Bor Text)) → AsksFor words (codes "--version")
 no_version words asked passes = not_none _ _ (sym (ap (fault_of mcssim_line) asked.1 ∙ version_kinds asked.0) ∙ passes)
 
 -- what an error hands on
-gives-passed : (choice : Options) (r : Result Options Error) (e : Error) → IsErrAnd r (λ x. x ≡ e) → IsMemory e → Gives choice r
+gives-passed : (choice : Choice) (r : Result Options Error) (e : Error) → IsErrAnd r (λ x. x ≡ e) → IsMemory e → Gives choice r
 gives-passed choice (Ok x) e same memory = absurd same
 gives-passed choice (Err x) e same memory = subst IsMemory (sym same) memory
 
@@ -122,14 +159,18 @@ returns-in_err-matches-clause-given c = λ choice asked.
     gives-passed choice _ e c.from_residual-in_err-matches.ensures.1 (refused_given _ e has choice asked)
 
 pub returns-in_err-matches-clause-replay : goal.returns-in_err-matches-clause-replay
-returns-in_err-matches-clause-replay c = λ asked. returns-in_err-matches-clause-given c Replay (asks_replay _ asked)
+returns-in_err-matches-clause-replay c = λ asked. returns-in_err-matches-clause-given c replays (asks_replay _ asked)
 
 pub returns-in_err-matches-clause-run : goal.returns-in_err-matches-clause-run
-returns-in_err-matches-clause-run c = λ asked. returns-in_err-matches-clause-given c (Run None) (asks_run _ asked)
+returns-in_err-matches-clause-run c = λ asked. returns-in_err-matches-clause-given c (runs None) (asks_run _ asked)
 
 pub returns-in_err-matches-clause-cores : goal.returns-in_err-matches-clause-cores
-returns-in_err-matches-clause-cores c = λ n count asked. returns-in_err-matches-clause-given c (Run (Some n))
+returns-in_err-matches-clause-cores c = λ n count asked. returns-in_err-matches-clause-given c (runs (Some n))
     (asks_cores _ n count asked)
+
+pub returns-in_err-matches-clause-file : goal.returns-in_err-matches-clause-file
+returns-in_err-matches-clause-file c = λ name is other asked. returns-in_err-matches-clause-given c (of_file name replays)
+    (asks_file _ name is other asked)
 
 pub returns-in_err-matches-clause-version : goal.returns-in_err-matches-clause-version
 returns-in_err-matches-clause-version c = λ asked.
@@ -143,27 +184,33 @@ pub returns-clause-asked : goal.returns-clause-asked
 returns-clause-asked c =
     let line = c.in_ok-commands.ensures.line in
     let passes = none_failed _ _ line c.in_ok-matches.ensures.kinds in
-    let is = found_is _ _ c.in_ok-matches.matches c.chosen.result line c.in_ok-matches.ensures.matches c.chosen.ensures in
-    found_asked _ c.chosen.result passes is
+    let is = found_is _ _ c.in_ok-matches.matches (choice_of c.chosen.result) line c.in_ok-matches.ensures.matches c.chosen.ensures in
+    found_asked _ (choice_of c.chosen.result) passes is
 
 pub returns-clause-given : goal.returns-clause-given
 returns-clause-given c = λ choice asked.
     let line = c.in_ok-commands.ensures.line in
-    let is = found_is _ _ c.in_ok-matches.matches c.chosen.result line c.in_ok-matches.ensures.matches c.chosen.ensures in
-    chosen _ choice c.chosen.result asked is
+    let is = found_is _ _ c.in_ok-matches.matches (choice_of c.chosen.result) line c.in_ok-matches.ensures.matches c.chosen.ensures in
+    chosen _ choice (choice_of c.chosen.result) asked is
 
 pub returns-clause-choice : goal.returns-clause-choice
-returns-clause-choice c = is_choice _ c.chosen.result (returns-clause-asked c)
+returns-clause-choice c = is_choice _ (choice_of c.chosen.result) (returns-clause-asked c)
 
 pub returns-clause-replay : goal.returns-clause-replay
-returns-clause-replay c = λ asked. returns-clause-given c Replay (asks_replay _ asked)
+returns-clause-replay c = λ asked. returns-clause-given c replays (asks_replay _ asked)
 
 pub returns-clause-run : goal.returns-clause-run
-returns-clause-run c = λ asked. returns-clause-given c (Run None) (asks_run _ asked)
+returns-clause-run c = λ asked. returns-clause-given c (runs None) (asks_run _ asked)
 
 pub returns-clause-cores : goal.returns-clause-cores
-returns-clause-cores c = λ n count asked. returns-clause-given c (Run (Some n)) (asks_cores _ n count asked)
+returns-clause-cores c = λ n count asked. returns-clause-given c (runs (Some n)) (asks_cores _ n count asked)
+
+pub returns-clause-file : goal.returns-clause-file
+returns-clause-file c = λ name is other asked. returns-clause-given c (of_file name replays) (asks_file _ name is other asked)
 
 pub returns-clause-version : goal.returns-clause-version
 returns-clause-version c = λ asked. no_version _ asked (none_failed _ _ c.in_ok-commands.ensures.line
     c.in_ok-matches.ensures.kinds)
+
+pub returns-clause-fails : goal.returns-clause-fails
+returns-clause-fails c = none_failed _ _ c.in_ok-commands.ensures.line c.in_ok-matches.ensures.kinds

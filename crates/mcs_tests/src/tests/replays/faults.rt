@@ -1,5 +1,5 @@
 //! What the program reports of its faults, its arguments and its command line.
-use mcs_options::{Options, options};
+use mcs_options::{Options, Task, options};
 use mcs_sim::{SimFault, answer_status, arguments};
 use mcs_text::LineFault;
 use std::alloc::Global;
@@ -103,25 +103,51 @@ fn an_argument_that_is_no_text_is_a_fault(rt: HostRuntime) {
     assert!(rt; told == Err(SimFault::Argument));
 }
 
-/// Command lines, and what comes of them: a replay, a run with so many cores, or an answer with
-/// this status that has this text.
+/// Command lines, and what comes of them: a command, with a number of cores, with `explain`, and
+/// with the file that is read behind `<`; or an answer with this status that has this text.
 const LINES: &str = "\
 mcssim replay = replay
+mcssim replay -- = replay
+mcssim replay a.mcs = replay < a.mcs
+mcssim replay - = replay
+mcssim replay -- - = replay
+mcssim replay -- -a.mcs = replay < -a.mcs
+mcssim replay -- -- = replay < --
+mcssim replay help = replay < help
+mcssim replay --explain = replay explain
+mcssim replay --explain a.mcs = replay explain < a.mcs
+mcssim replay a.mcs --explain -- = replay explain < a.mcs
+mcssim replay --explain -- --explain = replay explain < --explain
 mcssim run = run
 mcssim run --cores 1 = run 1
 mcssim run --cores 16 = run 16
 mcssim run --cores=2 = run 2
+mcssim run 3 = run < 3
+mcssim run --cores 2 a.mcs = run 2 < a.mcs
+mcssim run a.mcs --cores 2 = run 2 < a.mcs
+mcssim run a.mcs --explain --cores=2 = run 2 explain < a.mcs
+mcssim run --explain --cores 2 -- a.mcs = run 2 explain < a.mcs
 mcssim --version = 0 mcssim 0.1.0
 mcssim --help = 0 replay
+mcssim replay --help = 0 FILE
+mcssim run a.mcs -h = 0 FILE
 mcssim = 1
 mcssim again = 1
-mcssim replay x = 1
+mcssim -- replay = 1
+mcssim replay a.mcs b.mcs = 1 unexpected argument 'b.mcs' found
+mcssim replay - - = 1 unexpected argument '-' found
+mcssim replay -- a.mcs b.mcs = 1 unexpected argument 'b.mcs' found
+mcssim replay -a.mcs = 1 unexpected argument '-a' found
+mcssim replay --explain --explain = 1
+mcssim replay --explain=yes = 1
+mcssim replay --cores 2 = 1 unexpected argument '--cores' found
 mcssim run --cores 0 = 1 0 is not in 1..=16
 mcssim run --cores 17 = 1 17 is not in 1..=16
 mcssim run --cores x = 1 invalid digit found in string
 mcssim run --cores = 1 a value is required for '--cores <N>'
-mcssim run 3 = 1 unexpected argument '3' found
-mcssim replay --cores 2 = 1 unexpected argument '--cores' found
+mcssim run --cores -- 2 = 1 a value is required for '--cores <N>'
+mcssim run --cores 2 --cores 2 = 1
+mcssim run a.mcs --cores 2 b.mcs = 1 unexpected argument 'b.mcs' found
 ";
 
 /// Whether a text is said. The version is all that is said of it.
@@ -133,19 +159,37 @@ fn is_said(text: &str, part: &str) -> bool {
     }
 }
 
+/// The task of which the table tells.
+fn task(told: &str) -> Option<Task> {
+    if told == "replay" {
+        return Some(Task::Replay);
+    }
+    let cores = told.strip_prefix("run")?.trim_start().parse().ok();
+    Some(Task::Run { cores })
+}
+
+/// Whether options are those of which the table tells.
+fn is_asked(asked: &Options<'_>, want: &str) -> bool {
+    let (told, file) = match want.split_once(" < ") {
+        Some((told, file)) => (told, Some(file)),
+        None => (want, None),
+    };
+    let (told, explain) = match told.strip_suffix(" explain") {
+        Some(told) => (told, true),
+        None => (told, false),
+    };
+    task(told) == Some(asked.task) && asked.file == file && asked.explain == explain
+}
+
 /// Whether this comes of a command line.
 fn comes(alloc: Global, words: &[&str], want: &str) -> Result<bool, Fail> {
-    let (word, rest) = want.split_once(' ').unwrap_or((want, ""));
     let answer = match options(alloc, words) {
-        Ok(Options::Replay) => return Ok(want == "replay"),
-        Ok(Options::Run { cores }) => {
-            let wanted = rest.parse::<u8>().ok();
-            return Ok(word == "run" && cores == wanted);
-        }
+        Ok(asked) => return Ok(is_asked(&asked, want)),
         Err(answer) => answer,
     };
+    let (status, rest) = want.split_once(' ').unwrap_or((want, ""));
     let text = answer.to_string(alloc)?;
-    let status = word.parse::<u8>().unwrap_or(u8::MAX);
+    let status = status.parse::<u8>().unwrap_or(u8::MAX);
     Ok(answer_status(&answer) == status && is_said(text.as_str(), rest))
 }
 
