@@ -26,8 +26,8 @@ SOURCES = {
         ("mcs_text/src/key.rt", r'=> b"(?:[=+] )?(\w+)"'),
         ("mcs_lab_check/src/asking.rt", r'is\((?:word|first), b"(\w+)"\)'),
         ("mcs_lab_check/src/seeing.rt", r'b" got (\w+)"'),
-        ("mcs_explore_questions/src/reading.rt", r'b"([a-z]+\??)" =>'),
-        ("mcs_explore_questions/src/reading.rt", r'expect\("(\w+)"\)'),
+        ("mcs_explore_questions/src/reading.rt", r'(?:is\(first, |first == )b"([a-z]+\??)"'),
+        ("mcs_explore_questions/src/reading.rt", r'expect\(alloc, "(\w+)"\)'),
         ("mcs_explore_programs/src/keywords.rt", r'b"(\w+)" => Some\(Keyword'),
         ("mcs_explore_programs/src/conditions.rt", r'(?:take\(|        )b"(\w+)"(?:\)| =>)'),
         ("mcs_explore_programs/src/program.rt", r'expect\("(\w+)"\)'),
@@ -36,6 +36,9 @@ SOURCES = {
         ("mcs_plan_source/src/reading.rt", r'^ +"(\w+)" =>'),
         ("mcs_plan_source/src/reading.rt", r'(?:word == |expect\(alloc, )"(\w+)"'),
         ("mcs_plan_compile/src/compiling.rt", r'first == "(program)"'),
+        ("mcs_plan_domains/src/reading.rt", r'(?:word|first) == "(\w+)"'),
+        ("mcs_plan_domains/src/reading.rt", r'words\.(?:expect|takes)\("(\w+)"\)'),
+        ("mcs_plan_domains/src/handlers.rt", r'keyword == "(\w+)"'),
     ],
 }
 

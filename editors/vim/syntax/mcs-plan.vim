@@ -14,6 +14,10 @@ syntax keyword planAs contained as
 syntax keyword planUser contained user program
 syntax keyword planStatement contained let forever while repeat if else break continue stop and not
 syntax keyword planStatement contained has bit got heard empty done refused
+syntax keyword planDomain contained pd channel
+syntax keyword planDomainPart contained prio on core passive pp any priority
+syntax keyword planHandler contained init protected notified
+syntax keyword planSent contained notify deferred ppcall reply
 
 syntax match planName contained /\S\@1<!\a[0-9A-Za-z._/-]*\%(:\%([rwgp]\+\|-\)\=\)\=\%(=\%(0x\x\+\|\d\+\)\)\=\S\@!/
 syntax match planRights contained /\S\@1<![rwgp]\@=r\=w\=g\=p\=\S\@!/
@@ -32,6 +36,9 @@ syntax match planExpectation /^\s*?\s.*$/ contains=planMark,mcsAnswerWord,mcsAsk
 syntax match planStatements /^\s*\%(\a[0-9A-Za-z._-]*:\s\+\)\=\%(program\|let\|forever\|while\|repeat\|if\|break\|continue\|stop\|[{}]\)\S\@!.*$/ contains=planUser,planStatement,planSign,@planOperand
 syntax match planGiven /^\s*\%(send\|nbsend\|call\|recv\|nbrecv\|wait\|nbwait\|replyrecv\|nbsendrecv\|nbsendwait\|signal\|setprio\|suspend\|resume\|bindntfn\|unbindntfn\|bind\|unbind\|cancel\|copy\|mint\|move\|delete\|make\)\s.*$/ contains=mcsEntry,mcsKind,@planOperand
 syntax match planChange /^\s*\a[0-9A-Za-z._-]*\s\+\%(=\|+=\|-=\)\s.*$/ contains=planSign,@planOperand
+syntax match planDomainLine /^\s*\%(pd\|channel\)\s\+\%(has\S\@!\|on\S\@!\)\@!\S.*$/ contains=planDomain,planDomainPart,planHandler,planSent,planStatement,planSign,@planOperand
+syntax match planHandlerLine /^\s*\%(init\|protected\|notified\)\S\@!.*$/ contains=planHandler,planSent,planStatement,planSign,@planOperand
+syntax match planSentLine /^\s*\%(\a[0-9A-Za-z._-]*:\s\+\)\=\%(\%(notify\|deferred\|ppcall\)\S\@!\|reply\%(\s\+[$0-9]\|\s*$\)\@=\).*$/ contains=planSent,planStatement,planSign,@planOperand
 syntax match planQuestion /^#! .*$/ contains=@mcsScript
 
 highlight default link planComment Comment
@@ -40,6 +47,10 @@ highlight default link planDeclaration Statement
 highlight default link planHas Statement
 highlight default link planUser Statement
 highlight default link planStatement Statement
+highlight default link planDomain Statement
+highlight default link planDomainPart Keyword
+highlight default link planHandler Statement
+highlight default link planSent Function
 highlight default link planSign Operator
 highlight default link planValue Identifier
 highlight default link planPart Keyword
