@@ -37,6 +37,7 @@ grep '^ok' out | while read -r _ _ _ _ line _; do
     sed -n "${line%:}p" first.plan | grep -q '^?' || fails "line $line of the plan expects nothing"
 done
 grep -q "^1\\.\\.$(grep -c '^?' first.plan)\$" out || fails "not each line is checked"
+grep -q '^ok 1 - line [0-9]*: fs got 42 1 0x1000$' out || fails "a verdict is not the plan's line"
 ends 0 draw first.plan
 grep -q '<title>A client and a passive file server</title>' out || fails "no picture"
 ends 0 draw --format html first.plan
@@ -46,7 +47,7 @@ ends 0 state first.plan
 ends 0 state --stuck first.plan
 call=$(grep -n '^client: call' first.plan | cut -d: -f1)
 ends 0 state --at "$call" first.plan
-grep -q 't1 (client).* waits for the answer' out || fails "no state behind line $call"
+grep -q '^  client (priority 10): waits for the answer that fs.reply owes' out || fails "no state behind line $call"
 ends 0 draw --from "$call" --to "$call" first.plan
 
 # An expectation that does not hold, and a word that is wrong, are told by the plan's line.
@@ -56,6 +57,8 @@ ends 1 check wrong.plan
 grep -q "^not ok .* - line $line: " out || fails "no line $line in the verdict"
 step=$(grep -n '^fs: replyrecv' wrong.plan | cut -d: -f1)
 grep -q "^  line: $step\$" out || fails "no line $step in the verdict"
+grep -q "^  wanted: 'client answered 0 513'\$" out || fails "no names in what is wanted"
+grep -q "^  behind: 'fs: replyrecv fs.ep fs.reply 0 512'\$" out || fails "no names in the step"
 sed 's/^client: call/client: cal/' first.plan >wrong.plan
 ends 2 check wrong.plan
 grep -q "^wrong.plan:$call: " told || fails "no wrong.plan:$call:"
@@ -63,6 +66,7 @@ grep -q "^Bail out! line $call: " out || fails "no Bail out!"
 
 ends 0 explore first-users.plan
 grep -q '^no deadlock; 2 of 2 questions hold' out || fails "explore: $(tail -n 1 out)"
+grep -q '^anna 1: call fs.ep 1 3 -> ' out || fails "explore: no names"
 for line in $(grep -n '^#!' first-users.plan | cut -d: -f1); do
     grep -q "question at line $line\\b" out || fails "no question at line $line"
 done

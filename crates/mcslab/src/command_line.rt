@@ -1,12 +1,14 @@
 //! What the command line asks for.
 use crate::compiling::{self, Made};
+use crate::completing::{self, Shell};
 use crate::drawing::{self, Drawn};
 use crate::exploring::{self, Sought};
+use crate::showing::{self, Forms};
 use crate::starting::{self, Begun};
 use crate::walking::{self, Chance};
+use crate::{manual, renaming};
 use clap::builder::ValueParser;
 use clap::{Arg, ArgAction, ArgMatches, Command as Words, Error};
-use mcs_lab_forms::FORMS;
 use mcs_lab_inspect::Wanted;
 use std::alloc::Global;
 
@@ -36,6 +38,12 @@ pub enum Command<'a> {
     Names,
     /// Writes the first plans of a new user.
     Init(Begun<'a>),
+    /// Shows the forms of a text.
+    Forms(Forms),
+    /// Writes the manual page.
+    Manual,
+    /// Writes completions for a shell.
+    Completions(Shell),
 }
 
 /// A command, and the file that it reads; None for the standard input.
@@ -76,26 +84,26 @@ impl<'a> Request<'a> {
     }
 }
 
-/// How a script says what is wanted, and the exit statuses of `Outcome`.
-const QUESTIONS: &str = "\
-Lines behind a step say what is wanted of it:
-  = got 9 7 5          its answer
-  + owes r1 t1 s1      a record among its own, in their order
-  #? QUESTION          what stands behind it:
-     away | away NotRunning | away NoContext | away WrongCore
-     t1 waits e1.send | t1 owed r1 | t1 running | t1 restart | t1 inactive | t1 closed
-     t1 got 9 7 5 | t1 heard 5 | t1 answered 7 5 | t1 got nothing
-     t1 bound n1 | t1 holds s1 | t1 priority 10
-     s1 held t1 | s1 chain r2 r1 | s1 homed n1
-     r1 owes t1 | r1 with t2 | n1 pending 5
-     e1.recv t2 t4 | c1 3 holds e1 rw 9         (`-` for nothing)
-  #@ t1 client         a name for an object: letters, digits, `-`, `_` and `.`
-A plan says the same by `? ANSWER` and `? QUESTION`, with its names.
+/// What holds for all commands, an example of each, and the exit statuses of `Outcome`.
+pub const HELP: &str = "\
+A command that reads steps or users reads a script or a plan: a file NAME.plan, or any with --plan.
+The numbers of lines are those of the file that is given. A fault is told as FILE:LINE: .., and `-`
+is the standard input. `mcslab COMMAND --help` has the options of a command.
 
-Each command but `names` and `init` reads a plan as well: a file NAME.plan, or any with --plan. The numbers of
-lines are those of the file that is given. A fault is told as FILE:LINE: .., and `-` is the standard input.
-
-`mcslab COMMAND --help` shows the options of a command, and `mcslab json --help` the forms of all lines.
+Examples:
+  mcslab init first                               two plans to begin with, first.plan and first-users.plan
+  mcslab check first.plan
+  mcslab why first.plan
+  mcslab state --at 11 first.plan
+  mcslab json first.plan
+  mcslab draw first.plan > first.svg
+  mcslab explore --scripts found first-users.plan
+  mcslab walk --seed 7 first-users.plan > one-order.mcs
+  mcslab compile first.plan > first.mcs
+  mcslab names first.mcs < trace
+  mcslab forms plan                               what a plan may say; a script; questions
+  mcslab manual > mcslab.1
+  mcslab completions bash > mcslab.bash
 
 Exit status:
    0  it did what was asked, and all that was wanted holds
@@ -108,6 +116,11 @@ Exit status:
    6  memory was refused
    8  a read failed
   64  the command line: an option, a file that cannot be opened, or a line that is not there";
+
+/// Where it is said what may be expected of a step.
+const EXPECTED: &str = "\
+Lines behind a step say what is wanted of it: `mcslab forms questions`. The exit status is 1 if
+something that is wanted does not hold; `mcslab --help` has the others.";
 
 /// The file of a script or a plan.
 fn file<'a>(alloc: Global) -> Arg<'a> {
@@ -141,7 +154,7 @@ fn at<'a>(alloc: Global) -> Arg<'a> {
     line(
         alloc,
         "at",
-        "Behind which line of the file [default: its end]",
+        "Shows the state after this line of the file [default: its last]",
     )
 }
 
@@ -187,7 +200,7 @@ fn check<'a>(alloc: Global) -> Result<Words<'a>, Error> {
         .about(
             "Compares what a script or a plan says of its steps with what they do, and writes TAP",
         )
-        .after_help(QUESTIONS);
+        .after_help(EXPECTED);
     with(Ok(words), file(alloc))
 }
 
@@ -214,7 +227,7 @@ fn book<'a>(alloc: Global) -> Result<Words<'a>, Error> {
         .about(
             "Writes the lines of the book as JSON, an object for each, by the words of the forms",
         )
-        .after_help(FORMS);
+        .after_help("`mcslab forms script` shows the forms.");
     with(Ok(words), file(alloc))
 }
 
@@ -223,7 +236,7 @@ fn program<'a>(alloc: Global) -> Words<'a> {
     Words::new(alloc, "mcslab")
         .version(VERSION)
         .about("Tests, draws and explores protocols of seL4, as scripts of mcssim or as plans")
-        .after_help(QUESTIONS)
+        .after_help(HELP)
         .subcommand_required(true)
 }
 
@@ -247,24 +260,48 @@ fn readers<'a>(alloc: Global) -> Result<Words<'a>, Error> {
     either(alloc, words, walking::command(alloc, file(alloc)))
 }
 
-/// The program's commands.
-fn commands<'a>(alloc: Global) -> Result<Words<'a>, Error> {
+/// The program with the commands that read something.
+fn workers<'a>(alloc: Global) -> Result<Words<'a>, Error> {
     let words = over(readers(alloc), compiling::command(alloc, plan(alloc)));
-    let words = over(words, compiling::names_command(alloc));
-    over(words, starting::command(alloc))
+    over(words, renaming::command(alloc))
 }
 
-/// What is asked of a plan or of the names of a script, or whether plans are to be written.
+/// Returns the program's commands.
+pub fn commands<'a>(alloc: Global) -> Result<Words<'a>, Error> {
+    let words = over(workers(alloc), starting::command(alloc));
+    let words = over(words, showing::command(alloc));
+    let words = over(words, manual::command(alloc));
+    over(words, completing::command(alloc))
+}
+
+/// Returns the request of a command that reads no file.
+fn without_file(command: Command<'_>) -> Request<'_> {
+    Request {
+        command,
+        file: None,
+        is_plan: false,
+    }
+}
+
+/// What is asked of the program itself, if something is.
+fn requested_of_program<'a>(matches: &ArgMatches<'a>) -> Option<Request<'a>> {
+    if let Some(found) = matches.subcommand_matches("init") {
+        return Some(without_file(Command::Init(starting::asked(found))));
+    }
+    if let Some(found) = matches.subcommand_matches("forms") {
+        return Some(without_file(Command::Forms(showing::asked(found))));
+    }
+    if let Some(found) = matches.subcommand_matches("completions") {
+        return Some(without_file(Command::Completions(completing::asked(found))));
+    }
+    matches.subcommand_matches("manual")?;
+    Some(without_file(Command::Manual))
+}
+
+/// What is asked of a plan or of the names of a script, if something is.
 fn requested_of_names<'a>(matches: &ArgMatches<'a>) -> Option<Request<'a>> {
     if let Some(found) = matches.subcommand_matches("compile") {
         return Some(Request::plain(Command::Compile(compiling::asked(found)), found));
-    }
-    if let Some(found) = matches.subcommand_matches("init") {
-        return Some(Request {
-            command: Command::Init(starting::asked(found)),
-            file: None,
-            is_plan: false,
-        });
     }
     let found = matches.subcommand_matches("names")?;
     Some(Request::plain(Command::Names, found))
@@ -306,6 +343,9 @@ fn requested_of_steps<'a>(matches: &ArgMatches<'a>) -> Option<Request<'a>> {
 /// What the words of the command line ask for; the first is the program's name.
 pub fn requested<'a>(alloc: Global, words: &'a [&'a str]) -> Result<Request<'a>, Error> {
     let matches = commands(alloc)?.try_get_matches_from(words)?;
+    if let Some(request) = requested_of_program(&matches) {
+        return Ok(request);
+    }
     if let Some(request) = requested_of_names(&matches) {
         return Ok(request);
     }
@@ -316,9 +356,5 @@ pub fn requested<'a>(alloc: Global, words: &'a [&'a str]) -> Result<Request<'a>,
         return Ok(request);
     }
     // the command line has one of these commands
-    Ok(Request {
-        command: Command::Check,
-        file: None,
-        is_plan: false,
-    })
+    Ok(without_file(Command::Check))
 }

@@ -1,11 +1,10 @@
-//! Plans and names, as the command line asks for them.
+//! The script of a plan, as the command line asks for it.
 use crate::command_line::with;
-use crate::input::read_bytes;
+use crate::input::plan_bytes;
 use crate::telling::tell_plan_fault;
 use clap::{Arg, ArgAction, ArgMatches, Command as Words, Error};
 use mcs_lab_check::LabFault;
 use mcs_plan_compile::write_map;
-use mcs_plan_source::tell_names;
 use mcs_plan_validate::{CompileFault, Compiled, load};
 use std::alloc::Global;
 use std::io::{self, Write};
@@ -37,23 +36,6 @@ pub fn command<'a>(alloc: Global, file: Arg<'a>) -> Result<Words<'a>, Error> {
     with(with(Ok(words(alloc)), map(alloc)), file)
 }
 
-/// The file of a script that has names.
-fn script<'a>(alloc: Global) -> Arg<'a> {
-    Arg::new(alloc, "FILE").help("The script").required(true)
-}
-
-/// The command that puts names into a trace, with no option.
-fn names_words<'a>(alloc: Global) -> Words<'a> {
-    Words::new(alloc, "names").about(
-        "Puts the names that a script gives into a trace, which is the standard input",
-    )
-}
-
-/// The command that puts names into a trace.
-pub fn names_command<'a>(alloc: Global) -> Result<Words<'a>, Error> {
-    with(Ok(names_words(alloc)), script(alloc))
-}
-
 /// What is asked.
 pub fn asked(found: &ArgMatches<'_>) -> Made {
     if found.get_flag("map") {
@@ -63,13 +45,24 @@ pub fn asked(found: &ArgMatches<'_>) -> Made {
     }
 }
 
-/// The exit status of a write.
-fn written(rt: &HostRuntime, done: io::Result<()>) -> ExitCode {
+/// Reports a write that failed, and returns the exit status.
+pub fn written(rt: &HostRuntime, done: io::Result<()>) -> ExitCode {
     match done {
         Ok(()) => ExitCode::SUCCESS,
         Err(_) => {
             let _ = rt.eprintln(LabFault::Write);
             ExitCode::from(LabFault::Write.status())
+        }
+    }
+}
+
+/// Writes a text that was made, unless there was no memory for it, and returns the exit status.
+pub fn write_whole(rt: &HostRuntime, made: io::Result<()>, text: &[u8]) -> ExitCode {
+    match made {
+        Ok(()) => written(rt, io::writer(rt).write_all(text)),
+        Err(_) => {
+            let _ = rt.eprintln(LabFault::OutOfMemory);
+            ExitCode::from(LabFault::OutOfMemory.status())
         }
     }
 }
@@ -101,31 +94,12 @@ fn make(rt: &HostRuntime, plan: &[u8], made: Made) -> Result<ExitCode, CompileFa
 
 /// Makes what is asked of a plan.
 pub fn compile_plan(rt: &HostRuntime, file: Option<&str>, made: Made) -> ExitCode {
-    let plan = match read_bytes(rt, file) {
+    let plan = match plan_bytes(rt, file) {
         Ok(plan) => plan,
         Err(status) => return ExitCode::from(status),
     };
     match make(rt, &plan, made) {
         Ok(status) => status,
-        Err(fault) => tell_plan_fault(rt, file, &fault),
-    }
-}
-
-/// Puts the names of a script into the trace that is read.
-pub fn tell_trace(rt: &HostRuntime, file: Option<&str>) -> ExitCode {
-    let script = match read_bytes(rt, file) {
-        Ok(script) => script,
-        Err(status) => return ExitCode::from(status),
-    };
-    let trace = match read_bytes(rt, None) {
-        Ok(trace) => trace,
-        Err(status) => return ExitCode::from(status),
-    };
-    match tell_names(rt.alloc(), &script, &trace) {
-        Ok(bytes) => written(rt, write_out(rt, &bytes, &[])),
-        Err(_) => {
-            let _ = rt.eprintln(LabFault::OutOfMemory);
-            ExitCode::from(LabFault::OutOfMemory.status())
-        }
+        Err(fault) => tell_plan_fault(rt, file, &plan, &fault),
     }
 }

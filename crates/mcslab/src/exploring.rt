@@ -33,24 +33,33 @@ pub struct Sought<'a> {
     pub seconds: Option<u64>,
 }
 
-/// What a script may ask.
-const QUESTIONS: &str = "\
-The script is one of `mcssim run`: a boot, and the entries of users. Lines that begin with `#! ` ask of all orders:
+/// What a script may ask of all orders.
+pub const ASKED_OF_ALL: &str = "\
+Lines that begin with `#! ` ask of all orders (mcslab explore), in scripts and in plans:
   #! idle t1                        t1 may wait for ever: that is no deadlock
   #! idle t1 2                      in its second entry; in the first two: 1..=2
-  #! live t1                        from each state some order answers an entry of t1, or all were: asked without `idle`, too
+  #! live t1                        from each state some order answers an entry of t1, or all were:
+                                    asked without `idle`, too
   #! live t1 2                      the same of its second entry
-  #! answer t1 2 got 9 *            each run that ends has answered its second entry, and all answers are so
+  #! answer t1 2 got 9 *            each run that ends has answered its second entry, and all answers
+                                    are so
   #! answer? t1 2 got 9 *           all answers are so, if it has some
   #! some t2 1 heard 3              some order gives this answer
   #! never = refused *              no line of a trace is so, of an answer or of a record
   #! never + void * * cancelled
-  #! never t2 in 1..2 and t3 in 1..2    never have both been answered entry 1 and not yet given 2; answered 2: 1..=2
+  #! never t2 in 1..2 and t3 in 1..2    never have both been answered entry 1 and not yet given 2;
+                                    answered 2: 1..=2
   #! before t1 2 t2 3               the second entry of t1 is given before the third of t2
   #! again t1 2                     behind its last entry t1 goes on with its second
-In a pattern `*` stands for a word and `**` for the rest. A name of a line `#@` stands for its object.
+In a pattern `*` stands for a word and `**` for the rest. A name of a line `#@`, or of the plan, stands
+for its object.
+";
 
-`mcslab --help` has the exit statuses.";
+/// What is read, and where more is said.
+const READS: &str = "\
+The script is one of `mcssim run`: a boot, and the entries of users. Its lines that begin with `#! `
+ask of all orders: `mcslab forms questions`. The exit status is 0 if all holds, 1 if something fails,
+and 3 if a budget ended the search and nothing failed so far; `mcslab --help` has the others.";
 
 /// Returns an option with a number.
 pub fn number<'a>(alloc: Global, name: &'a str, help: &'a str) -> Arg<'a> {
@@ -63,20 +72,12 @@ pub fn number<'a>(alloc: Global, name: &'a str, help: &'a str) -> Arg<'a> {
 
 /// Returns the option for the most states.
 fn states<'a>(alloc: Global) -> Arg<'a> {
-    number(
-        alloc,
-        "states",
-        "How many states are found at most [default: 1000000]",
-    )
+    number(alloc, "states", "Stops after N states [default: 1000000]")
 }
 
 /// Returns the option for the depth.
 fn depth<'a>(alloc: Global) -> Arg<'a> {
-    number(
-        alloc,
-        "depth",
-        "From how many turns on no state is expanded",
-    )
+    number(alloc, "depth", "Does not expand states deeper than N turns")
 }
 
 /// Returns the option for the time.
@@ -84,7 +85,7 @@ fn seconds<'a>(alloc: Global) -> Arg<'a> {
     number(
         alloc,
         "seconds",
-        "Stops after so many seconds, and reports what was found",
+        "Stops after N seconds, and reports what was found",
     )
 }
 
@@ -132,7 +133,7 @@ fn exact<'a>(alloc: Global) -> Arg<'a> {
 fn words<'a>(alloc: Global) -> Words<'a> {
     Words::new(alloc, "explore")
         .about("Goes through all orders of the users of a script")
-        .after_help(QUESTIONS)
+        .after_help(READS)
 }
 
 /// Returns the command.

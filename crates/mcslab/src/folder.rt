@@ -1,4 +1,5 @@
 //! The folder in which scripts of a search are kept.
+use crate::path::Path;
 use mcs_explore_report::{MARK, Saves, UserScript, is_script_name};
 use mcs_lab_check::LabFault;
 use std::alloc::Global;
@@ -54,7 +55,7 @@ impl Saves for Folder<'_> {
             Ok(()) => Ok(()),
             Err(error) if error.kind() == ErrorKind::AlreadyExists => {
                 let rt = self.rt;
-                let path = path.as_str();
+                let path = Path(path.as_str());
                 let _ = eprintln!(rt;
                     "mcslab: {path} is not a script of mcslab; --force overwrites it"
                 );

@@ -1,5 +1,7 @@
 //! What a command reads: a file or the standard input, whole or as it comes.
+use crate::path::Path;
 use mcs_lab_check::{LabFault, Outcome};
+use mcs_sim::Source;
 use std::alloc::Global;
 use std::fs::{self, File};
 use std::io::{self, ErrorKind, Read};
@@ -58,43 +60,106 @@ pub fn open(rt: &HostRuntime, path: &str) -> io::Result<File> {
     Ok(file)
 }
 
-/// All bytes of the standard input.
-fn read_input(rt: &HostRuntime) -> io::Result<Vec<u8>> {
-    let mut bytes = Vec::new(rt.alloc());
-    rt.reader().read_to_end(&mut bytes)?;
+/// How many bytes a line of a plan may have for more to be read: its limit, and a character.
+const LINE: usize = 4_004;
+
+/// How many lines a plan may have.
+const LINES: usize = 900_000;
+
+/// How much of a plan was read: its lines, and the bytes of the one that is not ended.
+#[derive(Clone, Copy)]
+struct Measure {
+    lines: usize,
+    line: usize,
+}
+
+impl Measure {
+    /// Counts bytes, and returns whether a plan that goes on behind them may still be one.
+    fn take(&mut self, bytes: &[u8]) -> bool {
+        for byte in bytes {
+            if *byte == b'\n' {
+                self.lines = self.lines.saturating_add(1);
+                self.line = 0;
+            } else {
+                self.line = self.line.saturating_add(1);
+            }
+            if self.line > LINE || self.lines > LINES {
+                return false;
+            }
+        }
+        true
+    }
+}
+
+/// Returns how many bytes at the end of a text may be a part of a character: at most four.
+fn count_cut(bytes: &[u8]) -> usize {
+    let mut count: usize = 0;
+    for byte in bytes.iter().rev() {
+        if *byte < 128 || count >= 4 {
+            return count;
+        }
+        count = count.saturating_add(1);
+        if *byte >= 192 {
+            return count;
+        }
+    }
+    count
+}
+
+/// Reads a plan, but no further than to a line that is too long, or to one too many.
+fn read_plan<R: Read + Drop>(alloc: Global, from: R) -> Result<Vec<u8>, LabFault> {
+    let mut source = Source::new(from);
+    let mut bytes = Vec::new(alloc);
+    let mut measure = Measure { lines: 0, line: 0 };
+    let mut piece = [0; 4_096];
+    for _ in 0..u64::MAX {
+        let Ok(count) = source.read_piece(&mut piece) else {
+            return Err(LabFault::Read);
+        };
+        if count == 0 {
+            break;
+        }
+        bytes.extend_from_slice(&piece[..count])?;
+        if !measure.take(&piece[..count]) {
+            let end = bytes.len().saturating_sub(count_cut(&bytes));
+            bytes.truncate(end);
+            break;
+        }
+    }
     Ok(bytes)
 }
 
-/// Reports that the standard input could not be read, and returns the exit status.
-fn tell_unread(rt: &HostRuntime, error: &io::Error) -> u8 {
-    let fault = match error.kind() {
-        ErrorKind::OutOfMemory => LabFault::OutOfMemory,
-        _ => LabFault::Read,
-    };
-    let _ = rt.eprintln(fault);
-    fault.status()
-}
-
-/// Reports that a file could not be read, and returns the exit status.
+/// Reports that a file could not be opened, and returns the exit status.
 pub fn tell_unopened(rt: &HostRuntime, path: &str, error: &io::Error) -> u8 {
     if error.kind() == ErrorKind::OutOfMemory {
-        return tell_unread(rt, error);
+        let _ = rt.eprintln(LabFault::OutOfMemory);
+        return LabFault::OutOfMemory.status();
     }
+    let path = Path(path);
     let _ = eprintln!(rt; "mcslab: {path}: {error}");
     Outcome::Call.status()
 }
 
-/// Returns the bytes of a file, or of the standard input; or the exit status, where they can't be
-/// read, which is reported.
-pub fn read_bytes(rt: &HostRuntime, file: Option<&str>) -> Result<Vec<u8>, u8> {
+/// Returns the bytes of a plan that was read; or the exit status, where it could not be, which is
+/// reported.
+fn plan_read(rt: &HostRuntime, read: Result<Vec<u8>, LabFault>) -> Result<Vec<u8>, u8> {
+    match read {
+        Ok(bytes) => Ok(bytes),
+        Err(fault) => {
+            let _ = rt.eprintln(fault);
+            Err(fault.status())
+        }
+    }
+}
+
+/// Returns the bytes of a plan, a file or the standard input, up to where it is refused for its
+/// size; or the exit status, where they can't be read, which is reported.
+pub fn plan_bytes(rt: &HostRuntime, file: Option<&str>) -> Result<Vec<u8>, u8> {
     match file {
-        Some(path) => match fs::read(rt, path) {
-            Ok(bytes) => Ok(bytes),
+        Some(path) => match open(rt, path) {
+            Ok(file) => plan_read(rt, read_plan(rt.alloc(), file)),
             Err(error) => Err(tell_unopened(rt, path, &error)),
         },
-        None => match read_input(rt) {
-            Ok(bytes) => Ok(bytes),
-            Err(error) => Err(tell_unread(rt, &error)),
-        },
+        None => plan_read(rt, read_plan(rt.alloc(), rt.reader())),
     }
 }

@@ -4,19 +4,30 @@
 //! ```text
 //! words ── command_line ──> Request: a command, and its file
 //! file ── input ──> a script, which is read as it comes, or a plan, which is read whole
-//! plan ── planning ──> the command with the script that it becomes; numbering: the plan's lines
-//! faults ── telling ──> FILE:LINE: ..
+//! plan ── planning ──> the command with the script that it becomes; retelling: the report by the
+//!     plan's lines (numbering) and names (speaking)
+//! faults ── telling ──> FILE:LINE: ..; of a plan with what may help: advice, entry_forms
 //! ```
 #![tactic(auto)]
 
+mod advice;
 mod command_line;
 mod compiling;
+mod completing;
 mod drawing;
+mod entry_forms;
 mod exploring;
 mod folder;
+mod hints;
 mod input;
+mod manual;
 mod numbering;
+mod path;
 mod planning;
+mod renaming;
+mod retelling;
+mod showing;
+mod speaking;
 mod starting;
 mod telling;
 mod walking;
@@ -24,15 +35,20 @@ mod walking;
 use clap::Error;
 use clap::error::ErrorKind;
 use command_line::{Command, Request, requested};
+use completing::write_completions;
 use drawing::{Drawn, draw};
 use exploring::{Sought, explore};
 use folder::make_folder;
 use input::{Kept, open, tell_unopened};
+use manual::write_manual;
 use mcs_explore_questions::ExploreFault;
 use mcs_lab_check::{LabFault, Outcome, check};
 use mcs_lab_inspect::{explain, show_state, write_json};
 use mcs_sim::{Source, arguments};
+use path::Path;
 use planning::do_plan;
+use renaming::tell_trace;
+use showing::show_forms;
 use starting::begin;
 use std::alloc::{AllocError, Global};
 use std::io::{self, BufWriter, Read, Write};
@@ -98,6 +114,7 @@ fn do_request<R: Read + Drop, W: Write + Drop>(
         }
         // these read no script of steps
         Command::Compile(_) | Command::Names | Command::Init(_) => true,
+        Command::Forms(_) | Command::Manual | Command::Completions(_) => true,
     };
     Ok(status_if(holds))
 }
@@ -153,12 +170,23 @@ fn tells_no_line(rt: &HostRuntime, drawn: Drawn) -> bool {
     }
 }
 
+/// Returns the exit status of a text that the program makes of its own description.
+fn described(rt: &HostRuntime, made: Result<ExitCode, Error>) -> ExitCode {
+    match made {
+        Ok(status) => status,
+        Err(error) => tell_answer(rt, &error),
+    }
+}
+
 /// Does what is asked, with its file or the standard input.
 fn carry_out(rt: &HostRuntime, request: &Request<'_>) -> ExitCode {
     match request.command {
         Command::Compile(made) => return compiling::compile_plan(rt, request.file, made),
-        Command::Names => return compiling::tell_trace(rt, request.file),
+        Command::Names => return tell_trace(rt, request.file),
         Command::Init(begun) => return begin(rt, begun),
+        Command::Forms(forms) => return show_forms(rt, forms),
+        Command::Manual => return described(rt, write_manual(rt)),
+        Command::Completions(shell) => return described(rt, write_completions(rt, shell)),
         Command::Explore(
             Sought {
                 scripts: Some(path),
@@ -166,6 +194,7 @@ fn carry_out(rt: &HostRuntime, request: &Request<'_>) -> ExitCode {
             },
         ) => {
             if let Err(error) = make_folder(rt, path) {
+                let path = Path(path);
                 let _ = eprintln!(rt; "mcslab: --scripts \"{path}\": {error}");
                 return ended(Outcome::Call);
             }

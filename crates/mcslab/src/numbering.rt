@@ -1,9 +1,7 @@
 //! The numbers of lines in what is told of a plan: those of the plan, not of the script that came
 //! of it.
-use std::alloc::{AllocError, Global};
-
 /// How a command writes the number of a line: at the beginning of a line of its own, where nothing
-/// that a script says can stand. What it says elsewhere is left as it is.
+/// that a script says can stand.
 #[derive(Clone, Copy)]
 pub enum Form {
     /// `ok 3 - line 12: ..`, `  line: 12`, `Bail out! line 12: ..`, as `mcslab check`.
@@ -12,14 +10,18 @@ pub enum Form {
     Lines,
     /// `{"line":12,..`, as `mcslab json`.
     Json,
+    /// None, as `mcslab state`.
+    State,
+    /// None: `mcslab explore` tells its questions by lines in which the plan has them.
+    Orders,
 }
 
 /// The number of a line in a line of a report, and what stands before and behind it.
 #[derive(Clone, Copy)]
-struct Found<'a> {
-    before: &'a [u8],
-    number: u64,
-    behind: &'a [u8],
+pub struct Found<'a> {
+    pub before: &'a [u8],
+    pub number: u64,
+    pub behind: &'a [u8],
 }
 
 /// Returns how many digits a text begins with.
@@ -73,6 +75,7 @@ fn place_of(form: Form, line: &[u8]) -> Option<usize> {
     match form {
         Form::Lines => place_behind(line, b"line "),
         Form::Json => place_behind(line, b"{\"line\":"),
+        Form::State | Form::Orders => None,
         Form::Tap => {
             if let Some(place) = verdict_place(line) {
                 return Some(place);
@@ -85,51 +88,16 @@ fn place_of(form: Form, line: &[u8]) -> Option<usize> {
     }
 }
 
+/// Returns the number of a line that a line of a report tells, if it tells one.
+pub fn found_in(form: Form, line: &[u8]) -> Option<Found<'_>> {
+    found_at(line, place_of(form, line)?)
+}
+
 /// Returns the number that stands for a line, of these; that of the line itself where there are
 /// none.
 pub fn number_in(numbers: &[u64], line: u64) -> u64 {
     let place = line.saturating_sub(1) as usize;
     numbers.get(place).copied().unwrap_or(line)
-}
-
-/// Adds a number as digits.
-fn add_number(alloc: Global, to: &mut Vec<u8>, number: u64) -> Result<(), AllocError> {
-    let digits = format!(in alloc; "{number}")?;
-    to.extend_from_slice(digits.as_bytes())
-}
-
-/// Adds a line of a report, with the number that stands for that of its line.
-fn add_line(
-    alloc: Global,
-    to: &mut Vec<u8>,
-    form: Form,
-    numbers: &[u64],
-    line: &[u8],
-) -> Result<(), AllocError> {
-    let place = place_of(form, line);
-    let Some(found) = place.and_then(|place| found_at(line, place)) else {
-        return to.extend_from_slice(line);
-    };
-    to.extend_from_slice(found.before)?;
-    add_number(alloc, to, number_in(numbers, found.number))?;
-    to.extend_from_slice(found.behind)
-}
-
-/// Returns a report with the numbers that stand for those of its lines.
-pub fn renumbered(
-    alloc: Global,
-    report: &[u8],
-    form: Form,
-    numbers: &[u64],
-) -> Result<Vec<u8>, AllocError> {
-    let mut text = Vec::new(alloc);
-    for (before, line) in report.split(|byte| *byte == b'\n').enumerate() {
-        if before > 0 {
-            text.extend_from_slice(b"\n")?;
-        }
-        add_line(alloc, &mut text, form, numbers, line)?;
-    }
-    Ok(text)
 }
 
 /// Returns the last line of a script that came of this line of a plan or of one before it, but none

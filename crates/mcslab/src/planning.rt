@@ -1,10 +1,12 @@
-//! What is asked of a plan: it is compiled in memory, and the command is done with its script. The
-//! numbers of lines are those of the plan.
+//! What is asked of a plan: it is compiled in memory, and the command is done with its script. What
+//! is told has the plan's lines and names.
+use crate::advice::told_of;
 use crate::command_line::{Command, Request};
 use crate::drawing::{Drawn, draw};
-use crate::exploring::explore;
-use crate::input::read_bytes;
-use crate::numbering::{Form, last_line, number_in, renumbered};
+use crate::exploring::{Sought, explore};
+use crate::input::plan_bytes;
+use crate::numbering::{Form, last_line, number_in};
+use crate::retelling::Retold;
 use crate::status_if;
 use crate::telling::{
     Place, Stranger, line_of, line_of_plan, reads_users, tell_fault, tell_plan_fault, tell_stranger,
@@ -13,21 +15,24 @@ use crate::walking::walk;
 use mcs_explore_questions::ExploreFault;
 use mcs_lab_check::{LabFault, Outcome, check};
 use mcs_lab_inspect::{Wanted, explain, show_state, write_json};
+use mcs_plan_compile::Script;
 use mcs_plan_validate::{CompileFault, Compiled, Loaded, Numbered, align_questions, load};
 use mcs_sim::Source;
 use std::alloc::{AllocError, Global};
 use std::io::{self, BufWriter, Write};
 use std::process::ExitCode;
 
-/// A script, with the numbers of the plan's lines of which its lines came.
+/// A plan, and the script that it became, with the numbers of the plan's lines of which its lines
+/// came.
 #[derive(Drop)]
-struct Planned {
+struct Planned<'a> {
+    plan: &'a [u8],
+    made: Script,
     script: Numbered,
     /// How many lines it has up to the end of its boot.
     boot: usize,
     /// The line of the plan with its first step or line of a user, where it has one.
     first: Option<u64>,
-    is_users: bool,
     /// How many lines the plan has.
     count: u64,
 }
@@ -76,39 +81,40 @@ fn first_of(loaded: &Loaded, boot: usize) -> Option<u64> {
     loaded.numbers.get(boot.saturating_add(place)).copied()
 }
 
-/// Returns the script of a plan that was loaded, which has so many lines: one of users has each
-/// question in the line in which the plan has it.
-fn script_of(alloc: Global, loaded: Loaded, count: u64) -> Result<Planned, AllocError> {
+/// Returns a plan that was loaded, and its script: one of users has each question in the line in
+/// which the plan has it.
+fn with_script<'a>(alloc: Global, loaded: Loaded, plan: &'a [u8]) -> Result<Planned<'a>, AllocError> {
     let boot = boot_of(&loaded.compiled);
     let first = first_of(&loaded, boot);
     let text = text_of(alloc, &loaded.compiled)?;
-    let is_users = loaded.compiled.script.is_users;
-    let Loaded { numbers, .. } = loaded;
-    let script = if is_users {
+    let Loaded { compiled, numbers } = loaded;
+    let Compiled { script: made, .. } = compiled;
+    let script = if made.is_users {
         align_questions(alloc, &text, &numbers)?
     } else {
         Numbered { text, numbers }
     };
     Ok(Planned {
+        plan,
+        made,
         script,
         boot,
         first,
-        is_users,
-        count,
+        count: count_lines(plan),
     })
 }
 
-/// Returns the script of a plan. Its faults are those of `load`.
-fn plan_of(alloc: Global, plan: &[u8]) -> Result<Planned, CompileFault> {
+/// Returns a plan with its script. Its faults are those of `load`.
+fn plan_of(alloc: Global, plan: &[u8]) -> Result<Planned<'_>, CompileFault> {
     let loaded = load(alloc, plan)?;
-    Ok(script_of(alloc, loaded, count_lines(plan))?)
+    Ok(with_script(alloc, loaded, plan)?)
 }
 
-impl Planned {
+impl Planned<'_> {
     /// Returns what this is for a command that reads the other kind.
     fn stranger(&self, command: Command<'_>) -> Option<Stranger> {
         self.first?;
-        match (self.is_users, reads_users(command)) {
+        match (self.made.is_users, reads_users(command)) {
             (true, false) => Some(Stranger::Users),
             (false, true) => Some(Stranger::Steps),
             (true, true) | (false, false) => None,
@@ -127,7 +133,10 @@ impl Planned {
             | Command::Walk(_)
             | Command::Compile(_)
             | Command::Names
-            | Command::Init(_) => (None, None),
+            | Command::Init(_)
+            | Command::Forms(_)
+            | Command::Manual
+            | Command::Completions(_) => (None, None),
         };
         one.filter(|line| *line > self.count)
             .or(other.filter(|line| *line > self.count))
@@ -138,7 +147,13 @@ impl Planned {
         Source::new(self.script.text.as_slice())
     }
 
-    /// Writes what a command told of the script, with the numbers of the plan.
+    /// Returns a report on the script as one on the plan.
+    fn retold(&self, alloc: Global, report: &[u8], form: Form) -> Result<Vec<u8>, AllocError> {
+        let Numbered { text, numbers } = &self.script;
+        Retold::new(alloc, &self.made, text, numbers, self.plan)?.retell(alloc, report, form)
+    }
+
+    /// Writes a report on the script as one on the plan; as it is where memory is refused.
     fn put<W: Write>(
         &self,
         alloc: Global,
@@ -146,8 +161,10 @@ impl Planned {
         form: Form,
         to: &mut W,
     ) -> Result<(), LabFault> {
-        let text = renumbered(alloc, report, form, &self.script.numbers)?;
-        to.write_all(&text)?;
+        match self.retold(alloc, report, form) {
+            Ok(text) => to.write_all(&text)?,
+            Err(AllocError) => to.write_all(report)?,
+        }
         Ok(())
     }
 
@@ -186,7 +203,30 @@ impl Planned {
             .at
             .map(|line| last_line(&self.script.numbers, self.boot, line));
         let Wanted { stuck, json, .. } = wanted;
-        show_state(alloc, &mut self.source(), to, Wanted { at, stuck, json })
+        let wanted = Wanted { at, stuck, json };
+        if json {
+            return show_state(alloc, &mut self.source(), to, wanted);
+        }
+        let mut report = Vec::new(alloc);
+        let done = show_state(alloc, &mut self.source(), &mut report, wanted);
+        self.put(alloc, &report, Form::State, to)?;
+        done
+    }
+
+    /// Goes through all orders of the script, and returns the exit status.
+    fn explore<W: Write + Drop>(
+        &self,
+        rt: &HostRuntime,
+        to: &mut W,
+        sought: Sought<'_>,
+    ) -> Result<u8, ExploreFault> {
+        if sought.output.is_json {
+            return explore(rt, &mut self.source(), to, sought);
+        }
+        let mut report = Vec::new(rt.alloc());
+        let done = explore(rt, &mut self.source(), &mut report, sought);
+        self.put(rt.alloc(), &report, Form::Orders, to)?;
+        done
     }
 
     /// Draws the script.
@@ -208,13 +248,14 @@ impl Planned {
             Command::Json => self.write_json(alloc, to)?,
             Command::State(wanted) => self.show_state(alloc, to, wanted)?,
             Command::Draw(drawn) => return Ok(self.draw(rt, to, drawn)?),
-            Command::Explore(sought) => return explore(rt, &mut self.source(), to, sought),
+            Command::Explore(sought) => return self.explore(rt, to, sought),
             Command::Walk(chance) => {
                 walk(alloc, &mut self.source(), to, chance)?;
                 true
             }
             // these are done before
             Command::Compile(_) | Command::Names | Command::Init(_) => true,
+            Command::Forms(_) | Command::Manual | Command::Completions(_) => true,
         };
         Ok(status_if(holds))
     }
@@ -228,23 +269,26 @@ impl Planned {
     }
 }
 
-/// Writes the last line of TAP where a plan becomes no script.
-fn bail_out(rt: &HostRuntime, fault: &CompileFault) {
-    let alloc = rt.alloc();
-    let line = match (line_of_plan(fault), fault) {
+/// Returns the last line of TAP where a plan becomes no script.
+fn bail_line(alloc: Global, plan: &[u8], fault: &CompileFault) -> Result<String, AllocError> {
+    match (line_of_plan(fault), fault) {
         (Some(line), CompileFault::Plan(fault)) => {
-            let why = &fault.why;
-            format!(in alloc; "Bail out! line {line}: {why}\n")
+            let told = told_of(alloc, plan, fault)?;
+            format!(in alloc; "Bail out! line {line}: {told}\n")
         }
         _ => format!(in alloc; "Bail out! {fault}\n"),
-    };
-    if let Ok(line) = line {
+    }
+}
+
+/// Writes the last line of TAP where a plan becomes no script.
+fn bail_out(rt: &HostRuntime, plan: &[u8], fault: &CompileFault) {
+    if let Ok(line) = bail_line(rt.alloc(), plan, fault) {
         let _ = io::writer(rt).write_all(line.as_bytes());
     }
 }
 
 /// Does what is asked with the script of a plan, and returns the exit status.
-fn do_planned(rt: &HostRuntime, request: &Request<'_>, plan: &Planned) -> ExitCode {
+fn do_planned(rt: &HostRuntime, request: &Request<'_>, plan: &Planned<'_>) -> ExitCode {
     let file = request.file;
     if let Some(stranger) = plan.stranger(request.command) {
         let line = plan.first;
@@ -266,17 +310,17 @@ fn do_planned(rt: &HostRuntime, request: &Request<'_>, plan: &Planned) -> ExitCo
 
 /// Does what is asked with a plan, and returns the exit status.
 pub fn do_plan(rt: &HostRuntime, request: &Request<'_>) -> ExitCode {
-    let plan = match read_bytes(rt, request.file) {
-        Ok(plan) => plan,
+    let text = match plan_bytes(rt, request.file) {
+        Ok(text) => text,
         Err(status) => return ExitCode::from(status),
     };
-    match plan_of(rt.alloc(), &plan) {
+    match plan_of(rt.alloc(), &text) {
         Ok(plan) => do_planned(rt, request, &plan),
         Err(fault) => {
             if let Command::Check = request.command {
-                bail_out(rt, &fault);
+                bail_out(rt, &text, &fault);
             }
-            tell_plan_fault(rt, request.file, &fault)
+            tell_plan_fault(rt, request.file, &text, &fault)
         }
     }
 }

@@ -1,5 +1,6 @@
 //! The first plans of a new user.
 use crate::command_line::with;
+use crate::path::Path;
 use clap::{Arg, ArgAction, ArgMatches, Command as Words, Error};
 use mcs_lab_check::{LabFault, Outcome};
 use std::alloc::Global;
@@ -126,12 +127,14 @@ fn tell_unwritten(rt: &HostRuntime, path: &str, kind: ErrorKind, error: &io::Err
     if kind == ErrorKind::AlreadyExists {
         return tell_there(rt, path);
     }
+    let path = Path(path);
     let _ = eprintln!(rt; "mcslab: {path}: {error}");
     ExitCode::from(Outcome::Call.status())
 }
 
 /// Reports that a file is there already, and returns the exit status.
 fn tell_there(rt: &HostRuntime, path: &str) -> ExitCode {
+    let path = Path(path);
     let _ = eprintln!(rt; "mcslab: {path} is there already; --force overwrites it");
     ExitCode::from(Outcome::Call.status())
 }
@@ -150,6 +153,8 @@ fn write_both(rt: &HostRuntime, paths: [&str; 2], is_forced: bool) -> ExitCode {
         }
     }
     let [steps, users] = paths;
+    let steps = Path(steps);
+    let users = Path(users);
     let _ = println!(rt; "{steps} and {users} are written; go on with");
     let _ = println!(rt; "  mcslab check {steps}");
     let _ = println!(rt; "  mcslab explore {users}");

@@ -1,8 +1,11 @@
 //! How a fault is told: by the file that was given and its line, as compilers do.
+use crate::advice::{plan_words, told_of};
 use crate::command_line::Command;
+use crate::hints::hint_of;
+use crate::path::Path;
 use mcs_explore_questions::ExploreFault;
-use mcs_lab_check::{LabFault, Outcome, put_shown};
-use mcs_plan_source::{Plan, PlanFault, Why, split_comment, split_words};
+use mcs_lab_check::{Flaw, LabFault, Outcome, put_shown};
+use mcs_plan_source::{Plan, PlanFault, Why};
 use mcs_plan_validate::CompileFault;
 use mcs_text::LineFault;
 use std::alloc::Global;
@@ -20,11 +23,22 @@ pub struct Place<'a> {
 impl fmt::Display for Place<'_> {
     fn fmt<W: fmt::Write>(&self, f: &mut fmt::Formatter<W>) -> fmt::Result {
         match (self.file, self.line) {
-            (Some(file), Some(line)) => write!(f, "{file}:{line}: "),
-            (Some(file), None) => write!(f, "{file}: "),
+            (Some(file), line) => put_place(f, Path(file), line),
             (None, Some(line)) => write!(f, "mcslab: line {line}: "),
             (None, None) => f.write_str("mcslab: "),
         }
+    }
+}
+
+/// Writes a place in a file.
+fn put_place<W: fmt::Write>(
+    f: &mut fmt::Formatter<W>,
+    file: Path<'_>,
+    line: Option<u64>,
+) -> fmt::Result {
+    match line {
+        Some(line) => write!(f, "{file}:{line}: "),
+        None => write!(f, "{file}: "),
     }
 }
 
@@ -150,14 +164,30 @@ fn marked(alloc: Global, line: &[u8], place: usize) -> io::Result<Vec<u8>> {
     Ok(text)
 }
 
+/// Shows a line, and below it a mark at this place.
+fn show_mark(rt: &HostRuntime, line: &[u8], place: usize) {
+    if let Ok(text) = marked(rt.alloc(), line, place)
+        && let Ok(text) = str::from_utf8(&text)
+    {
+        let _ = eprintln!(rt; "{text}");
+    }
+}
+
 /// Reports what is odd in a line, behind its place and its fault, and shows where.
 fn tell_odd(rt: &HostRuntime, place: Place<'_>, what: OfLine<'_>, line: &[u8], odd: Oddity) {
     let why = odd.what;
     let _ = eprintln!(rt; "{place}{what}: {why}");
-    if let Ok(text) = marked(rt.alloc(), line, odd.place)
-        && let Ok(text) = str::from_utf8(&text)
-    {
-        let _ = eprintln!(rt; "{text}");
+    show_mark(rt, line, odd.place);
+}
+
+/// Returns the place of the flaw of which a fault tells, in a line without its newline.
+fn flaw_place(fault: &ExploreFault, line: &[u8]) -> Option<usize> {
+    match fault {
+        ExploreFault::Lab(LabFault::Flawed { flaw, .. }) => match flaw {
+            Flaw::ByteOrderMark => Some(0),
+            Flaw::CarriageReturn => line.len().checked_sub(1),
+        },
+        ExploreFault::Lab(_) | ExploreFault::Question { .. } | ExploreFault::Program { .. } => None,
     }
 }
 
@@ -171,7 +201,8 @@ fn has_no_form(fault: &ExploreFault) -> bool {
 }
 
 /// Reports a fault at this line of a file, or without a line where it has none, and returns the
-/// exit status. Where the text of the line is given and fits no form, what is odd in it is told.
+/// exit status. Where the text of the line is given, the place of a flaw is marked, and of a line
+/// that fits no form is told what is odd in it, or else what may help.
 pub fn tell_fault(
     rt: &HostRuntime,
     place: Place<'_>,
@@ -191,7 +222,19 @@ pub fn tell_fault(
         tell_odd(rt, place, what, text, odd);
         return status;
     }
+    if let Some(text) = text
+        && has_no_form(fault)
+        && let Some(hint) = hint_of(rt.alloc(), text)
+    {
+        let _ = eprintln!(rt; "{place}{what}: {hint}");
+        return status;
+    }
     let _ = eprintln!(rt; "{place}{what}");
+    if let Some(text) = text
+        && let Some(flaw) = flaw_place(fault, text)
+    {
+        show_mark(rt, text, flaw);
+    }
     status
 }
 
@@ -215,13 +258,30 @@ pub fn line_of_plan(fault: &CompileFault) -> Option<u64> {
     }
 }
 
+/// Reports that a line of a plan is refused, with what may help where there is memory for it.
+fn tell_plan_line(rt: &HostRuntime, place: Place<'_>, plan: &[u8], fault: &PlanFault) {
+    match told_of(rt.alloc(), plan, fault) {
+        Ok(told) => {
+            let _ = eprintln!(rt; "{place}{told}");
+        }
+        Err(_) => {
+            let why = &fault.why;
+            let _ = eprintln!(rt; "{place}{why}");
+        }
+    }
+}
+
 /// Reports why a plan becomes no script, and returns the exit status.
-pub fn tell_plan_fault(rt: &HostRuntime, file: Option<&str>, fault: &CompileFault) -> ExitCode {
+pub fn tell_plan_fault(
+    rt: &HostRuntime,
+    file: Option<&str>,
+    plan: &[u8],
+    fault: &CompileFault,
+) -> ExitCode {
     let line = line_of_plan(fault);
     match fault {
-        CompileFault::Plan(PlanFault { why, .. }) if line.is_some() => {
-            let place = Place { file, line };
-            let _ = eprintln!(rt; "{place}{why}");
+        CompileFault::Plan(fault) if line.is_some() => {
+            tell_plan_line(rt, Place { file, line }, plan, fault);
         }
         _ => {
             let _ = eprintln!(rt; "mcslab: {fault}");
@@ -269,23 +329,19 @@ pub fn reads_users(command: Command<'_>) -> bool {
         | Command::Draw(_)
         | Command::Compile(_)
         | Command::Names
-        | Command::Init(_) => false,
+        | Command::Init(_)
+        | Command::Forms(_)
+        | Command::Manual
+        | Command::Completions(_) => false,
     }
 }
 
 /// Returns whether a line reads as the first of a plan.
 fn begins_plan(alloc: Global, line: &[u8]) -> bool {
-    let Ok(text) = str::from_utf8(line) else {
-        return false;
-    };
-    let (code, _) = split_comment(text);
-    let Ok(words) = split_words(alloc, code) else {
-        return false;
-    };
-    if words.is_empty() {
-        return false;
+    match plan_words(alloc, line) {
+        Some(words) => !words.is_empty() && Plan::new(alloc).read(alloc, 1, &words).is_ok(),
+        None => false,
     }
-    Plan::new(alloc).read(alloc, 1, &words).is_ok()
 }
 
 /// Returns what a line that was refused is, if another command reads it.

@@ -1,0 +1,268 @@
+//! What is told of the script that a plan became, by its names: `fs: recv fs.ep fs.reply` for
+//! `0 t3 recv 1 2`, and `fs.ep.recv` for `e1.recv (fs.ep)`.
+use mcs_lab_check::object_of;
+use mcs_lab_forms::{Fields, LooksUp, form_of, number_of};
+use mcs_plan_compile::Script;
+use mcs_text::Words;
+use std::alloc::{AllocError, Global};
+
+/// From which number on numbers are told in hexadecimal.
+const LARGE: u64 = 1 << 32;
+
+/// A thread of a script, by its place among the threads.
+#[derive(Clone, Copy)]
+pub struct Speaker<'a> {
+    pub script: &'a Script,
+    pub place: usize,
+}
+
+/// Returns the place of a thread among the threads; None for a word that is no thread's.
+pub fn thread_place(word: &[u8]) -> Option<usize> {
+    let object = object_of(word)?;
+    match word {
+        [b't', ..] => Some(object.serial.checked_sub(1)? as usize),
+        _ => None,
+    }
+}
+
+/// Adds a number: from 2^32 on in hexadecimal.
+fn add_number(alloc: Global, to: &mut Vec<u8>, number: u64) -> Result<(), AllocError> {
+    let text = if number < LARGE {
+        format!(in alloc; "{number}")?
+    } else {
+        format!(in alloc; "0x{number:x}")?
+    };
+    to.extend_from_slice(text.as_bytes())
+}
+
+/// Adds a word as it is, or as a number.
+fn add_plain(alloc: Global, to: &mut Vec<u8>, word: &[u8]) -> Result<(), AllocError> {
+    match number_of(word) {
+        Some(number) => add_number(alloc, to, number),
+        None => to.extend_from_slice(word),
+    }
+}
+
+impl<'a> Speaker<'a> {
+    /// Returns the name that the thread has for an address, if it has one.
+    fn of_address(self, address: u64) -> Option<&'a str> {
+        for named in self.script.laid.tables.get(self.place)?.iter() {
+            if named.address == address {
+                return Some(named.name.as_str());
+            }
+        }
+        None
+    }
+
+    /// Returns the name that the thread has for an index and a depth, if it has one.
+    fn of_place(self, index: u64, depth: u64) -> Option<&'a str> {
+        for named in self.script.laid.tables.get(self.place)?.iter() {
+            if named.place.index == index && u64::from(named.place.depth) == depth {
+                return Some(named.name.as_str());
+            }
+        }
+        None
+    }
+
+    /// Adds an address by its name, or a word that is none as it is.
+    fn add_address(self, alloc: Global, to: &mut Vec<u8>, word: &[u8]) -> Result<(), AllocError> {
+        let Some(address) = number_of(word) else {
+            return to.extend_from_slice(word);
+        };
+        match self.of_address(address) {
+            Some(name) => to.extend_from_slice(name.as_bytes()),
+            None => add_number(alloc, to, address),
+        }
+    }
+
+    /// Adds an index and the depth that follows it by the name of the slot, or both as they are.
+    fn add_place(
+        self,
+        alloc: Global,
+        to: &mut Vec<u8>,
+        word: &[u8],
+        depth: &[u8],
+    ) -> Result<(), AllocError> {
+        if let (Some(index), Some(depth)) = (number_of(word), number_of(depth))
+            && let Some(name) = self.of_place(index, depth)
+        {
+            return to.extend_from_slice(name.as_bytes());
+        }
+        add_plain(alloc, to, word)?;
+        to.extend_from_slice(b" ")?;
+        add_plain(alloc, to, depth)
+    }
+
+    /// Adds the word of an operand, or two for a place.
+    fn add_operand(
+        self,
+        alloc: Global,
+        to: &mut Vec<u8>,
+        fields: &mut Fields<'_>,
+        word: &[u8],
+        words: &mut Words<'_>,
+    ) -> Result<(), AllocError> {
+        let looks_up = match fields.next_field() {
+            Some(field) => field.looks_up,
+            None => LooksUp::Nothing,
+        };
+        match looks_up {
+            LooksUp::Nothing => add_plain(alloc, to, word),
+            LooksUp::Address => self.add_address(alloc, to, word),
+            LooksUp::Place => {
+                fields.next_field();
+                let depth = words.next_word().unwrap_or(b"".as_slice());
+                self.add_place(alloc, to, word, depth)
+            }
+        }
+    }
+
+    /// Adds an entry of the thread, as a script spells it, by the names that the thread has.
+    pub fn add_entry(
+        self,
+        alloc: Global,
+        to: &mut Vec<u8>,
+        entry: &[u8],
+    ) -> Result<(), AllocError> {
+        let mut words = Words::new(entry);
+        let key = words.next_word().unwrap_or(b"".as_slice());
+        to.extend_from_slice(key)?;
+        let mut fields = match form_of(None, key) {
+            Some(fields) => fields,
+            None => Fields::none(),
+        };
+        for _ in 0..entry.len() {
+            let Some(word) = words.next_word() else {
+                break;
+            };
+            to.extend_from_slice(b" ")?;
+            self.add_operand(alloc, to, &mut fields, word, &mut words)?;
+        }
+        Ok(())
+    }
+}
+
+/// Adds the thread of a step, and its core where there are several.
+fn add_head(
+    to: &mut Vec<u8>,
+    script: &Script,
+    core: &[u8],
+    thread: &[u8],
+) -> Result<(), AllocError> {
+    match told_of(script, thread) {
+        Some(told) => to.extend_from_slice(told.name.as_bytes())?,
+        None => to.extend_from_slice(thread)?,
+    }
+    if script.cores > 1 {
+        to.extend_from_slice(b" on core ")?;
+        to.extend_from_slice(core)?;
+    }
+    to.extend_from_slice(b": ")
+}
+
+/// Adds a step of a script by the plan's names; as it is where it is none.
+pub fn add_step(
+    alloc: Global,
+    to: &mut Vec<u8>,
+    script: &Script,
+    step: &[u8],
+) -> Result<(), AllocError> {
+    let mut parts = step.splitn(3, |byte| *byte == b' ');
+    let (Some(core), Some(thread), Some(entry)) = (parts.next(), parts.next(), parts.next()) else {
+        return to.extend_from_slice(step);
+    };
+    let Some(place) = thread_place(thread) else {
+        return to.extend_from_slice(step);
+    };
+    add_head(to, script, core, thread)?;
+    Speaker { script, place }.add_entry(alloc, to, entry)
+}
+
+/// What a word of a report tells: an object by its name, and the end of the word, as `.recv`.
+#[derive(Clone, Copy)]
+struct Told<'a> {
+    name: &'a str,
+    end: &'a [u8],
+}
+
+/// Returns how many bytes of a word are before its first dot; all where it has none.
+fn object_len(word: &[u8]) -> usize {
+    word.iter()
+        .position(|byte| *byte == b'.')
+        .unwrap_or(word.len())
+}
+
+/// Returns what a word tells; None where it tells no object that has a name.
+fn told_of<'a>(script: &'a Script, word: &'a [u8]) -> Option<Told<'a>> {
+    let (object, end) = word.split_at_checked(object_len(word))?;
+    let name = script.laid.plan.names.name_of(object_of(object)?);
+    if name.as_bytes().is_empty() {
+        return None;
+    }
+    Some(Told { name, end })
+}
+
+/// Returns whether a byte may be one of a word that tells an object or a number.
+fn is_of_word(byte: u8) -> bool {
+    byte.is_ascii_alphanumeric() || byte == b'.' || byte == b'_' || byte == b'-'
+}
+
+/// Returns how many bytes of a text are before the first of a word, or before the first of none.
+fn run_len(text: &[u8], is_word: bool) -> usize {
+    text.iter()
+        .position(|byte| is_of_word(*byte) != is_word)
+        .unwrap_or(text.len())
+}
+
+/// Returns a text without the name between parentheses with which it begins, if it is this one.
+fn behind_name<'a>(text: &'a [u8], name: &str) -> &'a [u8] {
+    let Some(inner) = text.strip_prefix(b" (".as_slice()) else {
+        return text;
+    };
+    let Some(inner) = inner.strip_prefix(name.as_bytes()) else {
+        return text;
+    };
+    inner.strip_prefix(b")".as_slice()).unwrap_or(text)
+}
+
+/// Adds a word of a report, and returns what of the text behind it is left.
+fn add_word<'a>(
+    alloc: Global,
+    to: &mut Vec<u8>,
+    script: &Script,
+    word: &[u8],
+    text: &'a [u8],
+) -> Result<&'a [u8], AllocError> {
+    let Some(told) = told_of(script, word) else {
+        add_plain(alloc, to, word)?;
+        return Ok(text);
+    };
+    to.extend_from_slice(told.name.as_bytes())?;
+    to.extend_from_slice(told.end)?;
+    Ok(behind_name(text, told.name))
+}
+
+/// Adds a text of a report, with the plan's names for objects.
+pub fn add_text(
+    alloc: Global,
+    to: &mut Vec<u8>,
+    script: &Script,
+    text: &[u8],
+) -> Result<(), AllocError> {
+    let mut left = text;
+    // each turn takes a byte at least
+    for _ in 0..text.len() {
+        let Some((between, rest)) = left.split_at_checked(run_len(left, false)) else {
+            break;
+        };
+        to.extend_from_slice(between)?;
+        let Some((word, rest)) = rest.split_at_checked(run_len(rest, true)) else {
+            break;
+        };
+        if word.is_empty() {
+            break;
+        }
+        left = add_word(alloc, to, script, word, rest)?;
+    }
+    Ok(())
+}
