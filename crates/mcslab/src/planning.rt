@@ -209,10 +209,7 @@ impl Planned {
             Command::State(wanted) => self.show_state(alloc, to, wanted)?,
             Command::Draw(drawn) => return Ok(self.draw(rt, to, drawn)?),
             Command::Explore(sought) => return explore(rt, &mut self.source(), to, sought),
-            Command::Walk(chance) => {
-                walk(alloc, &mut self.source(), to, chance)?;
-                true
-            }
+            Command::Walk(chance) => return walk(alloc, &mut self.source(), to, chance),
             // these are done before
             Command::Compile(_) | Command::Names | Command::Init(_) => true,
         };
