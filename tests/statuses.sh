@@ -51,6 +51,10 @@ ends 3 '' explore --states 2 examples/explore/mutex.mcs
 ends 0 '' walk --seed 7 --turns 5 examples/explore/mutex.mcs
 ends 2 "$work/refused.mcs:2: fault 2: no form fits" walk "$work/refused.mcs"
 ends 64 '-1' walk --seed=-1 examples/explore/mutex.mcs
+ends 1 '' walk --runs 100 examples/explore/dining.mcs
+ends 3 '' walk --runs 100 --turns 50 examples/explore/mutex.mcs
+ends 64 '0' walk --runs 0 examples/explore/mutex.mcs
+ends 0 '' explore examples/programs/passive.plan
 for command in check why state json draw explore walk compile names; do
     ends 64 'No such file' $command "$work/none" </dev/null
     ends 64 'Is a directory' $command "$work" </dev/null

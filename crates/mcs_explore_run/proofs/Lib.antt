@@ -1,2 +1,5 @@
 mod Draws
+mod Failing
+mod Judging
 mod Lengths
+mod Showing

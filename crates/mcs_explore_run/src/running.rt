@@ -1,13 +1,16 @@
 //! A run, turn by turn, and the script that shows it.
-ghost use Rattle.std.specs.Prelude.{◌≡◌, ◌≤◌, true, false, IfOk};
-ghost use Rattle.mcs_turns.specs.Turns.{Follows, IsOver, IsRun};
-ghost use Rattle.mcs_explore_run.specs.Runs.{IsDrawn, IsRunUpTo};
+ghost use Rattle.std.specs.Prelude.{◌≡◌, ◌≤◌, true, false, IfOk, OnOk};
+ghost use Rattle.mcs_turns.specs.Turns.{ArePicks, Follows, IsOver, IsRun};
+ghost use Rattle.mcs_explore_run.specs.Runs.{CanTurn, IsDrawn, IsRunUpTo};
+ghost use Rattle.mcs_explore_run.specs.Samples.{SeesFrom, SeesRuns};
 
 use crate::drawing::draw;
+use crate::nobody::Nobody;
+use mcs_explore_orders::{OrdersFault, Turn, Users, Walk, Watch};
 use mcs_explore_script::{UserScript, fault_of, run_text};
-use mcs_explore_walk::{OrdersFault, Users, Walk};
 use mcs_lab_check::LabFault;
-use mcs_queues::{Lines, PlainLines};
+use mcs_queues::PlainLines;
+use mcs_turns::Pick;
 use rand_core::SeedableRng;
 use rand_pcg::Pcg32;
 use std::alloc::Global;
@@ -15,10 +18,10 @@ use std::alloc::Global;
 /// A run: how many turns it made, where they lead, and whether no turn is possible there. If it is
 /// not over, it made as many as were asked for.
 #[derive(Drop)]
-struct Run {
+pub struct Run {
     walk: Walk<PlainLines>,
     turns: u64,
-    is_over: bool,
+    pub is_over: bool,
 }
 
 /// A run that was drawn: the script that shows it, how many turns it made, and whether no turn is
@@ -30,42 +33,90 @@ pub struct Drawn {
     pub is_over: bool,
 }
 
-/// Makes one of the turns that are possible, and returns whether one was.
-fn step<L: Lines>(
+/// Shows a state of a run with a number, which may be over if that is said.
+fn show_state<W: Watch>(
+    users: &Users,
+    walk: &Walk<PlainLines>,
+    is_over: bool,
+    number: usize,
+    watch: &mut W,
+) -> Result<(), OrdersFault>
+    requires { is_over ≡ true → IsOver users.now walk.now }
+    ensures aim { OnOk result (W.aim watch.new ≡ W.aim watch.old) }
+    ensures sees { OnOk result (SeesFrom W.HasSeen watch.old watch.new users.now walk.now) }
+{
+    watch.see_state(users, number, walk, is_over)
+}
+
+/// Makes a turn that is possible in a run with a number, and shows it.
+fn make_turn<W: Watch>(
     alloc: Global,
     users: &Users,
-    walk: &mut Walk<L>,
-    random: &mut Pcg32,
-) -> Result<bool, OrdersFault>
-    ensures made { IfOk result (λ b. b ≡ true → Follows users.now walk.old walk.new) }
-    ensures over { IfOk result (λ b.
-        b ≡ false → (walk.new ≡ walk.old) × IsOver users.now walk.old) }
+    walk: &mut Walk<PlainLines>,
+    picks: &[Option<Pick>],
+    turn: Turn,
+    number: usize,
+    watch: &mut W,
+) -> Result<(), OrdersFault>
+    requires picks { ArePicks users.now walk.old picks.now }
+    requires can { CanTurn users.now walk.old turn }
+    ensures made { OnOk result (Follows users.now walk.old walk.new) }
+    ensures aim { OnOk result (W.aim watch.new ≡ W.aim watch.old) }
+    ensures sees { OnOk result (SeesFrom W.HasSeen watch.old watch.new users.now walk.old) }
 {
-    let picks = walk.picks(alloc, users)?;
-    let turns = walk.turns(alloc, users, &picks)?;
-    let Some(turn) = draw(walk, users, &picks, &turns, random) else {
-        return Ok(false);
-    };
-    match walk.turn(alloc, users, &picks, turn)? {
-        Some(_) => Ok(true),
+    match walk.turn(alloc, users, picks, turn)? {
+        Some(answer) => watch.see_turn(users, number, turn, &answer, walk),
         None => unreachable!(),
     }
 }
 
-/// Makes turns from the boot of a script on, so many at most. BookFull where the book has 1,000,000
-/// lines, OutOfMemory where memory was refused.
-fn make_turns(
+/// Shows the state of a run with a number, makes one of the turns that are possible, which is
+/// shown, too, and returns whether one was.
+fn step<W: Watch>(
+    alloc: Global,
+    users: &Users,
+    walk: &mut Walk<PlainLines>,
+    random: &mut Pcg32,
+    number: usize,
+    watch: &mut W,
+) -> Result<bool, OrdersFault>
+    ensures made { IfOk result (λ b. b ≡ true → Follows users.now walk.old walk.new) }
+    ensures over { IfOk result (λ b.
+        b ≡ false → (walk.new ≡ walk.old) × IsOver users.now walk.old) }
+    ensures aim { OnOk result (W.aim watch.new ≡ W.aim watch.old) }
+    ensures sees { OnOk result (SeesFrom W.HasSeen watch.old watch.new users.now walk.old) }
+{
+    let picks = walk.picks(alloc, users)?;
+    let turns = walk.turns(alloc, users, &picks)?;
+    let Some(turn) = draw(walk, users, &picks, &turns, random) else {
+        show_state(users, walk, true, number, watch)?;
+        return Ok(false);
+    };
+    show_state(users, walk, false, number, watch)?;
+    make_turn(alloc, users, walk, &picks, turn, number, watch)?;
+    Ok(true)
+}
+
+/// Makes turns from the boot of a script on, so many at most, and shows each state and each turn as
+/// those of the run with a number. BookFull where the book has 1,000,000 lines, OutOfMemory where
+/// memory was refused; else the faults of the watch.
+pub fn make_turns<W: Watch>(
     alloc: Global,
     script: &UserScript,
     random: &mut Pcg32,
     most: u64,
+    number: usize,
+    watch: &mut W,
 ) -> Result<Run, OrdersFault>
-    ensures { IfOk result (λ r.
+    ensures run { IfOk result (λ r.
         IsRunUpTo script.now.users script.now.boot most r.turns r.is_over r.walk) }
+    ensures aim { OnOk result (W.aim watch.new ≡ W.aim watch.old) }
+    ensures sees { OnOk result
+        (SeesRuns W.HasSeen watch.old watch.new script.now.users script.now.boot) }
 {
     let mut walk = Walk::new(alloc, &script.boot, &script.users)?;
     for turns in 0..most {
-        let is_made = step(alloc, &script.users, &mut walk, random)?;
+        let is_made = step(alloc, &script.users, &mut walk, random, number, watch)?;
         if !is_made {
             return Ok(Run {
                 walk,
@@ -74,6 +125,7 @@ fn make_turns(
             });
         }
     }
+    show_state(&script.users, &walk, false, number, watch)?;
     Ok(Run {
         walk,
         turns: most,
@@ -94,11 +146,12 @@ pub fn draw_run(
     ensures { IfOk result (IsDrawn script.now comment.now most) }
 {
     let mut random = Pcg32::seed_from_u64(seed);
+    let mut nobody = Nobody;
     let Run {
         walk,
         turns,
         is_over,
-    } = match make_turns(alloc, script, &mut random, most) {
+    } = match make_turns(alloc, script, &mut random, most, 0, &mut nobody) {
         Ok(run) => run,
         Err(fault) => return Err(fault_of(fault)),
     };

@@ -6,6 +6,7 @@
 //!     ── capabilities ──> objects, threads, and what each domain has
 //!     ── handlers, programs ──> a program for each domain: the loop of libmicrokit
 //!     ── lowered ──> the lines of a plan without domains, each with the line it came from
+//!     ── passives ──> passive threads among users, as a thread that makes them so
 //! ```
 #![tactic(auto)]
 
@@ -15,6 +16,7 @@ mod cursor;
 mod handlers;
 mod lowered;
 mod lowering;
+mod passives;
 mod programs;
 mod reading;
 mod statements;

@@ -1,6 +1,7 @@
-//! A plan with protection domains, as one without.
+//! A plan with protection domains, or with passive threads among users, as one without.
 use crate::capabilities::put_boot;
 use crate::lowered::Lowered;
+use crate::passives::lower_passives;
 use crate::programs::put_programs;
 use crate::reading::read_system;
 use crate::system::{Plain, System};
@@ -25,9 +26,8 @@ fn put_system(alloc: Global, out: &mut Lowered, system: &System<'_>) -> Result<(
 }
 
 /// Returns a plan in which each protection domain is objects, capabilities and a program, or None
-/// where the plan has neither a domain nor a channel. The faults name the line and the word;
-/// OutOfMemory where memory was refused.
-pub fn lower(alloc: Global, plan: &str) -> Result<Option<Lowered>, PlanFault> {
+/// where the plan has neither a domain nor a channel.
+fn lower_domains(alloc: Global, plan: &str) -> Result<Option<Lowered>, PlanFault> {
     let Some(system) = read_system(alloc, plan)? else {
         return Ok(None);
     };
@@ -36,5 +36,18 @@ pub fn lower(alloc: Global, plan: &str) -> Result<Option<Lowered>, PlanFault> {
     match out.finish() {
         Ok(lowered) => Ok(Some(lowered)),
         Err(why) => Err(PlanFault { line: 0, why }),
+    }
+}
+
+/// Returns a plan in which each protection domain is objects, capabilities and a program, and each
+/// passive thread among users one that a starter makes passive; None where the plan has none of
+/// these. The faults name the line and the word; OutOfMemory where memory was refused.
+pub fn lower(alloc: Global, plan: &str) -> Result<Option<Lowered>, PlanFault> {
+    let Some(lowered) = lower_domains(alloc, plan)? else {
+        return lower_passives(alloc, plan, &[]);
+    };
+    match lower_passives(alloc, lowered.text.as_str(), &lowered.lines)? {
+        Some(more) => Ok(Some(more)),
+        None => Ok(Some(lowered)),
     }
 }

@@ -34,6 +34,7 @@ const USERS: &[&str] = &[
     "programs/files",
     "programs/microkit",
     "programs/retry",
+    "programs/passive",
     "microkit/files",
     "microkit/files-call-back",
     "microkit/files-notified",

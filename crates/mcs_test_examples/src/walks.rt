@@ -1,7 +1,7 @@
 //! Runs that are drawn: whether each replays, and what one shows.
 use crate::orders::{SCRIPTS, count_steps, holds, is_whole};
 use mcs_explore_questions::ExploreFault;
-use mcs_explore_run::{Drawn, draw_run};
+use mcs_explore_run::{Chances, Drawn, draw_run, tell_runs};
 use mcs_explore_script::read_script;
 use mcs_lab_check::LabFault;
 use mcs_sim::Source;
@@ -16,6 +16,11 @@ const TURNS: u64 = 100;
 
 /// The script of which a run is written.
 const WRITTEN: &str = "programs/restarted.mcs";
+
+/// The scripts of which many runs are reported on, and how many.
+const TOLD: &[&str] = &["explore/lost-signal.mcs", "explore/mutex.mcs"];
+
+const RUNS: usize = 200;
 
 /// The runs that were drawn: how many, how many turns they made, in how many no turn is possible
 /// at the end, of how many the kernel accepts just these turns, and in how many each answer is the
@@ -39,6 +44,22 @@ fn drawn(rt: &HostRuntime, path: &str, seed: u64) -> Result<Drawn, ExploreFault>
     Ok(run)
 }
 
+/// Reports on many runs of the script of a file, and then whether something fails.
+fn tell_many<W: Write>(rt: &HostRuntime, to: &mut W, path: &str) -> Result<(), ExploreFault> {
+    let Ok(file) = fs::open(rt, path) else {
+        return Err(ExploreFault::Lab(LabFault::Read));
+    };
+    let chances = Chances {
+        seed: 1,
+        runs: RUNS,
+        turns: TURNS,
+    };
+    writeln!(to, "# runs of {path}")?;
+    let fails = tell_runs(rt.alloc(), &mut Source::new(file), chances, to)?;
+    writeln!(to, "{}", if fails { "a run fails" } else { "no run fails" })?;
+    Ok(())
+}
+
 impl Walks {
     /// Counts a run.
     fn note(&mut self, rt: &HostRuntime, run: &Drawn) -> Result<(), LabFault> {
@@ -54,7 +75,8 @@ impl Walks {
     }
 }
 
-/// Draws runs of all scripts of users, and says how they replay; then writes one.
+/// Draws runs of all scripts of users, and says how they replay; then writes one, and reports on many
+/// of two scripts.
 pub fn draw_walks<W: Write>(rt: &HostRuntime, to: &mut W) -> Result<(), ExploreFault> {
     let mut walks = Walks {
         count: 0,
@@ -80,5 +102,8 @@ pub fn draw_walks<W: Write>(rt: &HostRuntime, to: &mut W) -> Result<(), ExploreF
         "of {count} runs of {turns} turns {over} are over, {whole} replayed whole, {checked} checked"
     )?;
     to.write_all(&drawn(rt, WRITTEN, 1)?.text)?;
+    for path in TOLD {
+        tell_many(rt, to, path)?;
+    }
     Ok(())
 }

@@ -30,7 +30,7 @@ pub enum Command<'a> {
     Draw(Drawn),
     /// Goes through all orders of the users.
     Explore(Sought<'a>),
-    /// Takes one order of the users by chance.
+    /// Takes orders of the users by chance.
     Walk(Chance),
     /// Makes a script of a plan.
     Compile(Made),
@@ -110,7 +110,7 @@ Exit status:
    1  something that was wanted does not hold, an order ends with users that have not done all,
       or a thread or a user is stuck
    2  a line of the script or of the plan is refused
-   3  a budget ended the search, and nothing failed so far
+   3  a budget ended the search, or `walk --runs` took some orders, and nothing failed so far
    4  a write failed
    5  the book is full
    6  memory was refused

@@ -108,10 +108,7 @@ fn do_request<R: Read + Drop, W: Write + Drop>(
         Command::Json => write_json(alloc, source, to)?,
         Command::Draw(drawn) => return Ok(draw(rt, source, to, drawn, &[])?),
         Command::Explore(sought) => return explore(rt, source, to, sought),
-        Command::Walk(chance) => {
-            walk(alloc, source, to, chance)?;
-            true
-        }
+        Command::Walk(chance) => return walk(alloc, source, to, chance),
         // these read no script of steps
         Command::Compile(_) | Command::Names | Command::Init(_) => true,
         Command::Forms(_) | Command::Manual | Command::Completions(_) => true,

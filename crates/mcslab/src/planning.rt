@@ -249,10 +249,7 @@ impl Planned<'_> {
             Command::State(wanted) => self.show_state(alloc, to, wanted)?,
             Command::Draw(drawn) => return Ok(self.draw(rt, to, drawn)?),
             Command::Explore(sought) => return self.explore(rt, to, sought),
-            Command::Walk(chance) => {
-                walk(alloc, &mut self.source(), to, chance)?;
-                true
-            }
+            Command::Walk(chance) => return walk(alloc, &mut self.source(), to, chance),
             // these are done before
             Command::Compile(_) | Command::Names | Command::Init(_) => true,
             Command::Forms(_) | Command::Manual | Command::Completions(_) => true,

@@ -1,10 +1,15 @@
-//! One run of the users of a script, as the command line asks for it.
+//! Runs of the users of a script that are drawn by chance, as the command line asks for them.
+ghost use Rattle.std.specs.Prelude.{◌≡◌, IfOk};
+ghost use Rattle.mcs_explore_run.specs.Samples.{HasReadFailing};
+
 use crate::command_line::with;
 use crate::exploring::number;
+use clap::builder::ValueParser;
 use clap::{Arg, ArgMatches, Command as Words, Error};
 use mcs_explore_questions::ExploreFault;
-use mcs_explore_run::{Drawn, draw_run};
+use mcs_explore_run::{Chances, Drawn, draw_run, tell_runs};
 use mcs_explore_script::read_script;
+use mcs_lab_check::Outcome;
 use mcs_sim::Source;
 use std::alloc::{AllocError, Global};
 use std::io::{Read, Write};
@@ -15,11 +20,13 @@ const SEED: u64 = 1;
 /// How many turns a run makes at most, where nothing else is said.
 const TURNS: u64 = 1_000;
 
-/// By which seed turns are drawn, and how many at most.
+/// By which seed turns are drawn, how many at most, and how many runs are reported on; None where
+/// one is written.
 #[derive(Clone, Copy)]
 pub struct Chance {
     pub seed: u64,
     pub turns: u64,
+    pub runs: Option<u64>,
 }
 
 /// How the run ends, and what to do with it.
@@ -28,14 +35,16 @@ Each turn is drawn among those that are possible; the same seed gives the same r
 shows this one run: it says nothing of other orders. Its last line says whether a turn is possible at its end.
 `mcslab state --stuck` tells who is stuck there, `mcslab draw` draws it, and `mcslab explore` goes through all orders.
 
+With --runs N it draws the runs of N seeds, one after the other, and reports how they end, what each entry was
+answered, and which questions failed, each with the seed of the first run that shows it: `--seed` with that seed,
+and the same --turns, writes this run. The status is 1 if something failed, and else 3: there may be other orders.
+
 `mcslab --help` has the exit statuses.";
 
 /// Returns the command without options.
 fn words<'a>(alloc: Global) -> Words<'a> {
     Words::new(alloc, "walk")
-        .about(
-            "Takes one order of the users of a script by chance, and writes it as a script of steps",
-        )
+        .about("Takes orders of the users of a script by chance: writes one, or reports on many")
         .after_help(ENDS)
 }
 
@@ -53,10 +62,20 @@ fn turns<'a>(alloc: Global) -> Arg<'a> {
     )
 }
 
+/// Returns the option for the number of runs.
+fn runs<'a>(alloc: Global) -> Arg<'a> {
+    Arg::new(alloc, "runs")
+        .long("runs")
+        .value_name("N")
+        .help("Reports on so many runs, by this seed and those after it")
+        .value_parser(ValueParser::unsigned(1, u64::MAX))
+}
+
 /// Returns the command.
 pub fn command<'a>(alloc: Global, file: Arg<'a>) -> Result<Words<'a>, Error> {
     let words = with(Ok(words(alloc)), seed(alloc));
     let words = with(words, turns(alloc));
+    let words = with(words, runs(alloc));
     with(words, file)
 }
 
@@ -67,6 +86,7 @@ pub fn asked(found: &ArgMatches<'_>) -> Chance {
     Chance {
         seed: seed.unwrap_or(SEED),
         turns: turns.unwrap_or(TURNS),
+        runs: found.get_one("runs"),
     }
 }
 
@@ -82,17 +102,67 @@ fn last_line(alloc: Global, drawn: &Drawn) -> Result<String, AllocError> {
 }
 
 /// Draws a run of the users of a script, and writes the script that shows it.
-pub fn walk<R: Read, W: Write>(
+fn write_run<R: Read, W: Write>(
     alloc: Global,
     from: &mut Source<R>,
     to: &mut W,
     chance: Chance,
 ) -> Result<(), ExploreFault> {
-    let Chance { seed, turns } = chance;
+    let Chance { seed, turns, .. } = chance;
     let script = read_script(alloc, from)?;
     let comment = format!(in alloc; "# by mcslab walk --seed {seed}\n")?;
     let drawn = draw_run(alloc, &script, comment.as_bytes(), seed, turns)?;
     to.write_all(&drawn.text)?;
     to.write_all(last_line(alloc, &drawn)?.as_bytes())?;
     Ok(())
+}
+
+/// Returns the exit status where runs show a failure, or do not: they never show that all is well.
+fn status_of(fails: bool) -> u8
+    ensures fails { result ≡ 1 → fails ≡ true }
+    ensures unsure { result ≡ 0 → ⊥ }
+{
+    if fails {
+        Outcome::Unmet.status()
+    } else {
+        Outcome::Stopped.status()
+    }
+}
+
+/// Draws runs of the users of a script, reports what came in them, and returns the exit status.
+fn report_runs<R: Read, W: Write>(
+    alloc: Global,
+    from: &mut Source<R>,
+    to: &mut W,
+    chances: Chances,
+) -> Result<u8, ExploreFault>
+    // status 1: a script was read, and some run of it shows the failure
+    ensures fails { IfOk result (λ status. status ≡ 1
+        → HasReadFailing (R.remaining from.old.reader) (R.remaining from.new.reader)) }
+    // runs by chance never show that all is well
+    ensures unsure { IfOk result (λ status. status ≡ 0 → ⊥) }
+{
+    let fails = tell_runs(alloc, from, chances, to)?;
+    Ok(status_of(fails))
+}
+
+/// Draws one run of the users of a script, and writes the script that shows it; or draws many, and
+/// reports what came in them. Returns the exit status.
+pub fn walk<R: Read, W: Write>(
+    alloc: Global,
+    from: &mut Source<R>,
+    to: &mut W,
+    chance: Chance,
+) -> Result<u8, ExploreFault> {
+    let Chance { seed, turns, runs } = chance;
+    match runs {
+        None => {
+            write_run(alloc, from, to, chance)?;
+            Ok(Outcome::Done.status())
+        }
+        Some(runs) => {
+            let runs = runs as usize;
+            report_runs(alloc, from, to, Chances { seed, runs, turns })
+        }
+    }
 }

@@ -1,0 +1,170 @@
+-- What is kept of runs shows that a script fails.
+use Rattle.std.specs.Prelude.{ℕ, ◌≡◌, ◌<◌, ◌-◌, ◌⊎◌, ◌&&◌, ◌||◌, Bool, true, false, not, is_none, is_some, unwrap_or, List, [], ◌∷◌, Option, Some, None, zero, suc, length, slice_get}
+use Rattle.std.specs.List.{list_all, list_any}
+use Rattle.std.proofs.Common.{refl, ap, sym, ◌∙◌, subst, inl, inr, arith}
+use Rattle.mcs_book.specs.Boots.{Boot}
+use Rattle.mcs_turns.specs.Turns.{User, Going}
+use Rattle.mcs_explore_walk.specs.declared.walk.Turn.{Turn}
+use Rattle.mcs_explore_walk.specs.Walks.{last_answer}
+use Rattle.mcs_explore_orders.specs.Shown.{IsShown, Made, Shown}
+use Rattle.mcs_explore_orders.specs.Trails.{Leads}
+use Rattle.mcs_explore_questions.specs.declared.asking.Asked.{Asked}
+use Rattle.mcs_explore_questions.specs.declared.asking.Asked.TheVariants as asked
+use Rattle.mcs_explore_questions.specs.declared.asking.Event.{Event}
+use Rattle.mcs_explore_script.specs.declared.questions.AskedLine.{AskedLine}
+use Rattle.mcs_explore_script.specs.declared.script.UserScript.{UserScript}
+use Rattle.mcs_explore_script.specs.UserLists.{user_of}
+use Rattle.mcs_explore_report.specs.declared.answers.Told.{Told}
+use Rattle.mcs_explore_report.specs.declared.judging.Sighting.{Sighting}
+use Rattle.mcs_explore_report.specs.declared.verdicts.Verdict.{Verdict}
+use Rattle.mcs_explore_report.specs.Answers.{IsAnswerOf, IsMailed, IsOwnAnswer, Tables, table_of}
+use Rattle.mcs_explore_report.specs.Endings.{are_idle}
+use Rattle.mcs_explore_report.specs.Ends.{IsEndOf, Kind}
+use Rattle.mcs_explore_report.specs.Failing.{FailsInRun, FailsInRuns, HasBadEnd, HasFailingQuestion, IsFailing, SomeEndLacks}
+use Rattle.mcs_explore_report.specs.Found.{IsAnswered, IsSeenFrom}
+use Rattle.mcs_explore_report.specs.Holding.{SomeAnswerIs}
+use Rattle.mcs_explore_report.specs.Judged.{HasFailed, IsJudged, IsShownBy, IsStateShown}
+use Rattle.mcs_explore_report.specs.Judging.{fails}
+use Rattle.mcs_explore_report.specs.Standings.{standings}
+use Rattle.mcs_explore_report.specs.Verdicts.{IsAlways, IsFoundIn, IsSearched, IsWithout, answers_of, failed_at, lacks}
+use Rattle.mcs_explore_report.proofs.Lists.{at-within, within-at}
+use Rattle.mcs_explore_run.specs.Samples.{HasShownFailure, IsKeptOfRuns, IsShownToFail}
+
+-- one of a list is not so
+record SomeNot {A : Type 0} (f : A → Bool) (xs : List A) : Type 0 where
+  place : ℕ
+  one : A
+  at : slice_get xs place ≡ Some one
+  is : f one ≡ false
+
+not-first : (b c : Bool) → b ≡ true → (b && c) ≡ false → c ≡ false
+not-first true c is none = none
+not-first false c is none = absurd cc
+
+some-next : {A : Type 0} (f : A → Bool) (x : A) (xs : List A) → SomeNot f xs → SomeNot f (x ∷ xs)
+some-next f x xs n = record { place = suc n.place; one = n.one; at = n.at; is = n.is }
+
+-- where not all are so, one is not
+some-not : {A : Type 0} (f : A → Bool) (xs : List A) → list_all f xs ≡ false → SomeNot f xs
+some-not f [] all = absurd cc
+some-not f (x ∷ xs) all = by (f x) refl (λ rest. some-not f xs rest)
+  where
+    by : (b : Bool) → f x ≡ b → (list_all f xs ≡ false → SomeNot f xs) → SomeNot f (x ∷ xs)
+    by false is more = record { place = zero; one = x; at = refl; is = is }
+    by true is more = some-next f x xs (more (not-first (f x) (list_all f xs) is all))
+
+module _ (s : UserScript) (kinds : List Kind) (tables : Tables) (failed : List (Option Sighting)) (of : IsKeptOfRuns s.users s.boot s.asked.items kinds tables failed) where
+  -- a kind of end that is not idle is a bad end
+  bad-end : list_all (λ (k : Kind). are_idle s.asked.items k.standing) kinds ≡ false → HasBadEnd s
+  bad-end all =
+      let one = some-not (λ (k : Kind). are_idle s.asked.items k.standing) kinds all in
+      let end = of.kept.ends.each one.place one.one one.at in
+      let run = of.are.states end.number end.sight end.at in
+      record { turns = run.turns; state = end.sight.going; run = run.run; over = run.over end.over; bad = ap (are_idle s.asked.items) end.standing ∙ one.is }
+
+  end-lacks : (e : Event) (seen : Sighting) → IsWithout kinds e seen → SomeEndLacks s.users s.boot e
+  end-lacks e seen it =
+      let end = of.kept.ends.each it.index it.kind it.at in
+      let run = of.are.states end.number end.sight end.at in
+      record { turns = run.turns; state = end.sight.going; run = run.run; over = run.over end.over; lacks = ap (lacks e) end.standing ∙ it.lacks }
+
+  answered : (user number : ℕ) (t : Told) (m : Made) → last_answer m.going.book ≡ Some m.answer → m.turn ≡ t.turn → IsOwnAnswer m user number t.answer ⊎ IsMailed s.users m.going user number m.turn t.answer
+      → IsAnswered t.turn m.going user number t.answer ⊎ IsMailed s.users m.going user number t.turn t.answer
+  answered user number t m last same (inl own) = inl (subst (λ (u : Turn). IsAnswered u m.going user number t.answer) same (record { user = own.user; number = own.number; answer = last ∙ ap (λ a. Some a) own.answer }))
+  answered user number t m last same (inr mail) = inr (subst (λ (u : Turn). IsMailed s.users m.going user number u t.answer) same mail)
+
+  -- an answer that is kept came in a run
+  said-once : (e : Event) (pattern : List ℕ) (wanted : Bool) (seen : Sighting) → IsFoundIn (answers_of s.users tables e) pattern wanted seen → SomeAnswerIs s.users s.boot e pattern wanted
+  said-once e pattern wanted seen it = by (user_of s.users e.thread) refl
+    where
+      none : Option (List Told) → List Told
+      none o = unwrap_or o []
+
+      at-user : (user : ℕ) → user_of s.users e.thread ≡ Some user → (o : Option (List Told)) → table_of tables user (e.number - 1) ≡ o → slice_get (none o) it.index ≡ Some it.one → SomeAnswerIs s.users s.boot e pattern wanted
+      at-user user found None is at = absurd cc
+      at-user user found (Some told) is at =
+          let a = of.kept.answers.each user (e.number - 1) told it.index it.one is at in
+          let run = of.are.turns a.index a.made a.at in
+          record {
+            user = user;
+            of = found;
+            turns = run.turns;
+            state = run.state;
+            run = run.run;
+            turn = it.one.turn;
+            going = a.made.going;
+            leads = subst (λ (u : Turn). Leads s.users u run.state a.made.going) a.turn run.turn.leads;
+            answer = it.one.answer;
+            is = answered user (e.number - 1) it.one a.made run.turn.answer a.turn a.is;
+            said = it.is;
+          }
+
+      by : (o : Option ℕ) → user_of s.users e.thread ≡ o → SomeAnswerIs s.users s.boot e pattern wanted
+      by None is =
+          let empty : answers_of s.users tables e ≡ [] = ap (λ (p : Option ℕ). elim p [ None ↦ [] | Some i ↦ unwrap_or (table_of tables i (e.number - 1)) [] ]) is in
+          let at : slice_get [] it.index ≡ Some it.one = sym (ap (λ (ts : List Told). slice_get ts it.index) empty) ∙ it.at in
+          absurd cc
+      by (Some user) is =
+          let same : answers_of s.users tables e ≡ none (table_of tables user (e.number - 1)) = ap (λ (p : Option ℕ). elim p [ None ↦ [] | Some i ↦ unwrap_or (table_of tables i (e.number - 1)) [] ]) is in
+          at-user user is (table_of tables user (e.number - 1)) refl (sym (ap (λ (ts : List Told). slice_get ts it.index) same) ∙ it.at)
+
+  -- a failure that is kept came in a run
+  failed-by : (q : Asked) (place : ℕ) (turn : Option Turn) (h : Going) → IsShownBy of.shown place turn h → fails s.users q turn h ≡ true → FailsInRun s.users s.boot q
+  failed-by q place None h it no =
+      let run = of.are.states it.number it.sight it.at in
+      record { turns = run.turns; state = it.sight.going; run = run.run; turn = None; going = h; is = it.going; fails = no }
+  failed-by q place (Some t) h it no =
+      let run = of.are.turns it.number it.made it.at in
+      let turned = subst (λ (u : Turn). Leads s.users u run.state it.made.going) it.turn run.turn.leads in
+      record { turns = run.turns; state = run.state; run = run.run; turn = Some t; going = h; is = subst (λ (x : Going). Leads s.users t run.state x) it.going turned; fails = no }
+
+  failed-run : (i : ℕ) (q : AskedLine) → slice_get s.asked.items i ≡ Some q → (f : Option Sighting) → failed_at failed i ≡ f → is_some f ≡ true → FailsInRun s.users s.boot q.asked
+  failed-run i q at None is some = absurd cc
+  failed-run i q at (Some seen) is some =
+      let long = of.kept.judged.long in
+      let within = at-within s.asked.items i q at in
+      let kept = within-at failed i (omega (arith, within, long)) in
+      let same : kept.0 ≡ Some seen = sym (ap (λ (o : Option (Option Sighting)). elim o [ None ↦ None | Some g ↦ g ]) kept.1) ∙ is in
+      let it : HasFailed s.users q.asked of.shown seen = of.kept.judged.each i q (Some seen) at (kept.1 ∙ ap (λ (o : Option Sighting). Some o) same) in
+      failed-by q.asked seen.place seen.turn it.going it.is it.fails
+
+  seen-is : (f : Option Sighting) (v : Verdict) → v ≡ record { holds = is_none f; seen = f } → is_some v.seen ≡ true → is_some f ≡ true
+  seen-is f v is some = sym (ap (λ (w : Verdict). is_some w.seen) is) ∙ some
+
+  never-seen : {B : Type 0} (b : Bool) (v : Verdict) → v ≡ record { holds = b; seen = None } → is_some v.seen ≡ true → B
+  never-seen b v is some = let no : false ≡ true = sym (ap (λ (w : Verdict). is_some w.seen) is) ∙ some in absurd cc
+
+  answer-fails : (e : Event) (pattern : List ℕ) (o : Option Sighting) → is_some o ≡ true → IsAlways (answers_of s.users tables e) pattern kinds e o → SomeAnswerIs s.users s.boot e pattern false ⊎ SomeEndLacks s.users s.boot e
+  answer-fails e pattern None some always = absurd cc
+  answer-fails e pattern (Some seen) some (inl it) = inl (said-once e pattern false seen it)
+  answer-fails e pattern (Some seen) some (inr it) = inr (end-lacks e seen it)
+
+  said-fails : (e : Event) (pattern : List ℕ) (o : Option Sighting) → is_some o ≡ true → IsSearched (answers_of s.users tables e) pattern false o → SomeAnswerIs s.users s.boot e pattern false
+  said-fails e pattern None some none = absurd cc
+  said-fails e pattern (Some seen) some it = said-once e pattern false seen it
+
+  once-holds : {B : Type 0} (v : Verdict) → v.holds ≡ is_some v.seen → v.holds ≡ false → is_some v.seen ≡ true → B
+  once-holds v by no some = let both : false ≡ true = sym no ∙ (by ∙ some) in absurd cc
+
+  question-fails : (i : ℕ) (q : AskedLine) → slice_get s.asked.items i ≡ Some q → (a : Asked) → q.asked ≡ a → IsShownToFail s.users kinds tables (failed_at failed i) a → FailsInRuns s a
+  question-fails i q at (asked.Idle thread entries) same it = never-seen true it.verdict it.is it.seen
+  question-fails i q at (asked.Again event) same it = never-seen true it.verdict it.is it.seen
+  question-fails i q at (asked.Live thread number) same it = never-seen true it.verdict it.is it.seen
+  question-fails i q at (asked.Answer event pattern) same it = answer-fails event pattern.items it.verdict.seen it.seen it.is.1
+  question-fails i q at (asked.AnswerIf event pattern) same it = said-fails event pattern.items it.verdict.seen it.seen it.is.1
+  question-fails i q at (asked.Some event pattern) same it = once-holds it.verdict it.is.0 it.fails it.seen
+  question-fails i q at (asked.Never pattern) same it = subst (λ (x : Asked). FailsInRun s.users s.boot x) same (failed-run i q at (failed_at failed i) refl (seen-is (failed_at failed i) it.verdict it.is it.seen))
+  question-fails i q at (asked.Apart spans) same it = subst (λ (x : Asked). FailsInRun s.users s.boot x) same (failed-run i q at (failed_at failed i) refl (seen-is (failed_at failed i) it.verdict it.is it.seen))
+  question-fails i q at (asked.Before first second) same it = subst (λ (x : Asked). FailsInRun s.users s.boot x) same (failed-run i q at (failed_at failed i) refl (seen-is (failed_at failed i) it.verdict it.is it.seen))
+
+  one-fails : HasShownFailure s.users s.asked.items kinds tables failed → HasFailingQuestion s
+  one-fails it = record { index = it.index; line = it.line; at = it.at; fails = question-fails it.index it.line it.at it.line.asked refl it.is }
+
+  -- a script fails where something that is kept of runs shows it
+  pub failing : (any : Bool) → (any ≡ true → HasShownFailure s.users s.asked.items kinds tables failed) → (any || not (list_all (λ (k : Kind). are_idle s.asked.items k.standing) kinds)) ≡ true → IsFailing s
+  failing true shown is = inr (inl (one-fails (shown refl)))
+  failing false shown is = inl (bad-end (no-all (list_all (λ (k : Kind). are_idle s.asked.items k.standing) kinds) is))
+    where
+      no-all : (b : Bool) → not b ≡ true → b ≡ false
+      no-all true h = absurd cc
+      no-all false h = refl

@@ -1,0 +1,41 @@
+//! A watch that keeps nothing.
+use mcs_explore_orders::{OrdersFault, Turn, Users, Walk, Watch};
+use mcs_queues::PlainLines;
+use mcs_types::Answer;
+
+/// Keeps nothing of what it is shown.
+#[derive(Drop)]
+pub struct Nobody;
+
+impl Watch for Nobody {
+    ghost HasSeen = { λ w users shown. Unit {0} };
+
+    ghost Aim = { Unit {0} };
+
+    ghost aim = { λ w. tt };
+
+    fn see_state(
+        &mut self,
+        _users: &Users,
+        _place: usize,
+        _walk: &Walk<PlainLines>,
+        _is_over: bool,
+    ) -> Result<(), OrdersFault> {
+        Ok(())
+    }
+
+    fn see_turn(
+        &mut self,
+        _users: &Users,
+        _place: usize,
+        _turn: Turn,
+        _answer: &Answer,
+        _walk: &Walk<PlainLines>,
+    ) -> Result<(), OrdersFault> {
+        Ok(())
+    }
+
+    fn goes_on(&self) -> bool {
+        true
+    }
+}
