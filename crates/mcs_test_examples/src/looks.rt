@@ -1,17 +1,11 @@
 //! Pictures that are drawn and looked at.
 use crate::forms::is_sequence;
 use crate::places::is_clear;
-use mcs_lab_render::{Format, Window, draw_script};
+use mcs_lab_render::{Asked, Format, draw_script};
 use mcs_sim::Source;
 use std::alloc::{AllocError, Global};
 use std::io::Read;
 use std::str;
-
-/// All lines of a book.
-const WHOLE: Window = Window {
-    first: 1,
-    last: usize::MAX,
-};
 
 /// What is wrong with the parts of a page; None where nothing is.
 fn flaw_of(alloc: Global, page: &[u8], format: Format) -> Result<Option<&'static str>, AllocError> {
@@ -42,7 +36,7 @@ pub fn look_at<R: Read + Drop>(
 ) -> &'static str {
     let mut source = Source::new(script);
     let mut drawn = Vec::new(alloc);
-    if draw_script(alloc, &mut source, &mut drawn, format, WHOLE).is_err() {
+    if draw_script(alloc, &mut source, &mut drawn, &Asked::whole(format)).is_err() {
         return "NOT DRAWN";
     }
     match flaw_of(alloc, drawn.as_slice(), format) {

@@ -1,7 +1,7 @@
 //! What is asked of a plan: it is compiled in memory, and the command is done with its script. The
 //! numbers of lines are those of the plan.
 use crate::command_line::{Command, Request};
-use crate::drawing::{Drawn, draw};
+use crate::drawing::{Drawn, Said, draw};
 use crate::exploring::explore;
 use crate::input::read_bytes;
 use crate::numbering::{Form, last_line, number_in, renumbered};
@@ -190,8 +190,17 @@ impl Planned {
     }
 
     /// Draws the script.
-    fn draw<W: Write>(&self, rt: &HostRuntime, to: &mut W, drawn: Drawn) -> Result<u8, LabFault> {
-        draw(rt, &mut self.source(), to, drawn, &self.script.numbers)
+    fn draw<W: Write>(
+        &self,
+        rt: &HostRuntime,
+        to: &mut W,
+        drawn: Drawn<'_>,
+    ) -> Result<u8, LabFault> {
+        let said = Said {
+            numbers: &self.script.numbers,
+            texts: &[],
+        };
+        draw(rt, &mut self.source(), to, drawn, said)
     }
 
     /// Does what a command asks with steps, and returns the exit status.
