@@ -1,5 +1,5 @@
 //! The threads that a reader asks for, by their names or ids.
-use crate::naming::{Names as _, put_name};
+use crate::naming::put_name;
 use crate::script_names::ScriptNames;
 use crate::texts::take_text;
 use mcs_lab_check::{Judge, Named, Names, object_of};
