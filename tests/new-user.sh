@@ -39,6 +39,8 @@ done
 grep -q "^1\\.\\.$(grep -c '^?' first.plan)\$" out || fails "not each line is checked"
 ends 0 draw first.plan
 grep -q '<title>A client and a passive file server</title>' out || fails "no picture"
+ends 0 draw --threads client first.plan
+[ "$(grep -c '<rect class="head"' out)" -eq 1 ] || fails "--threads client: not one lane"
 ends 0 draw --format html first.plan
 grep -q '<html' out || fails "no page"
 ends 0 why first.plan
