@@ -1,5 +1,5 @@
 -- Where a notification was raised last, and which thread raised it.
-use Rattle.std.proofs.Common.{◌≡◌, ◌≢◌, ℕ, zero, suc, ◌+◌, ◌-◌, ◌≤◌, ◌<◌, Option, Some, None, List, [], ◌∷◌, ◌++◌, length, set, take, replicate, slice_get, refl, sym, ap, ◌∙◌, arith}
+use Rattle.std.proofs.Common.{◌≡◌, ◌≢◌, ℕ, zero, suc, ◌+◌, ◌-◌, ◌≤◌, ◌<◌, Option, Some, None, List, [], ◌∷◌, ◌++◌, length, set, take, replicate, slice_get, refl, ap, ◌∙◌, arith}
 use Rattle.std.specs.Prelude.{unwrap_or}
 use Rattle.mcs_types.specs.declared.id.ObjId.{ObjId}
 use Rattle.mcs_lab_diagram.specs.declared.arrows.Point.{Point}
@@ -11,12 +11,17 @@ raised_within [] n here lt = absurd (omega (arith, lt))
 raised_within (p ∷ ps) zero here lt = refl
 raised_within (p ∷ ps) (suc n) here lt = ap (λ (qs : List (Option Point)). p ∷ qs) (raised_within ps n here (omega (arith, lt)))
 
--- the list up to this place, and the place
+-- the places before one, and that one
+fresh : (n k : ℕ) (here : Point) → k ≡ n → replicate k None ++ Some here ∷ [] ≡ raised_with [] n here
+fresh zero zero here count = refl
+fresh zero (suc k) here count = absurd (omega (arith, count))
+fresh (suc n) zero here count = absurd (omega (arith, count))
+fresh (suc n) (suc k) here count = ap (λ (qs : List (Option Point)). None ∷ qs) (fresh n k here (omega (arith, count)))
+
+-- the same, behind a list
 beyond : (ps : List (Option Point)) (n k : ℕ) (here : Point) → length ps + k ≡ n → (take n ps ++ replicate k None) ++ Some here ∷ [] ≡ raised_with ps n here
-beyond [] zero zero here count = refl
-beyond [] zero (suc k) here count = absurd (omega (arith, count))
-beyond [] (suc n) zero here count = absurd (omega (arith, count))
-beyond [] (suc n) (suc k) here count = ap (λ (qs : List (Option Point)). None ∷ qs) (beyond [] n k here (omega (arith, count)))
+beyond [] zero k here count = fresh zero k here (omega (arith, count))
+beyond [] (suc n) k here count = fresh (suc n) k here (omega (arith, count))
 beyond (p ∷ ps) zero k here count = absurd (omega (arith, count))
 beyond (p ∷ ps) (suc n) k here count = ap (λ (qs : List (Option Point)). p ∷ qs) (beyond ps n k here (omega (arith, count)))
 

@@ -1,6 +1,6 @@
 //! The arrows of a picture: each message from its sender to its taker, each answer, and each word
 //! from who raised its notification last to who heard it.
-ghost use Rattle.std.specs.Prelude.{◌≡◌, ◌≤◌, ◌<◌, ◌^◌, ◌-◌, ◌++◌, None, IfOk, OnOk, length, replicate, take};
+ghost use Rattle.std.specs.Prelude.{◌≡◌, ◌≤◌, ◌-◌, ◌++◌, None, IfOk, OnOk, length, replicate, take};
 ghost use Rattle.mcs_lab_diagram.specs.Arrows.{beside, no_strokes, raise_of, raised_with, start_of, with_arrow, with_raise, with_record, with_records};
 
 use mcs_book::Line;

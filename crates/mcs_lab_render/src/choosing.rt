@@ -70,6 +70,12 @@ fn names_of(alloc: Global, names: &Names, count: u32) -> Result<String, AllocErr
     take_text(alloc, &mut page)
 }
 
+/// Adds a thread to a list.
+fn add(threads: &mut Vec<ObjId>, thread: ObjId) -> Result<(), AllocError> {
+    threads.push(thread)?;
+    Ok(())
+}
+
 /// Returns the threads of a list of names and ids with commas between, in its order, as the names
 /// of a script that was taken say it. Fault Word where a word is no thread's.
 pub fn threads_named<'a>(
@@ -82,7 +88,7 @@ pub fn threads_named<'a>(
     let mut threads = Vec::new(alloc);
     for word in words.split(',') {
         match thread_of(names, count, word.as_bytes()) {
-            Some(thread) => threads.push(thread)?,
+            Some(thread) => add(&mut threads, thread)?,
             None => {
                 let there = names_of(alloc, names, count)?;
                 return Err(NoThreads::Word { word, there });
