@@ -38,7 +38,7 @@ struct Stub {
 
 /// A step as a script spells it.
 #[derive(Clone, Copy)]
-struct Spelled<'a> {
+struct Entered<'a> {
     core: CoreId,
     thread: ObjId,
     entry: &'a str,
@@ -78,7 +78,7 @@ fn entry_part(step: &str) -> &str {
 }
 
 /// Puts a step with the name of its thread, and with its core where there are several.
-fn put_spelled<N: Names>(alloc: Global, words: &mut Words, scene: &Scene<'_, N>, step: Spelled<'_>) {
+fn put_spelled<N: Names>(alloc: Global, words: &mut Words, scene: &Scene<'_, N>, step: Entered<'_>) {
     if scene.drawing.book().cores() > 1 {
         words.page.number(step.core.0 as u64);
         words.page.put(b" ");
@@ -94,7 +94,7 @@ fn step_text<N: Names>(
     words: &mut Words,
     scene: &Scene<'_, N>,
     origin: Option<&Origin>,
-    step: Spelled<'_>,
+    step: Entered<'_>,
 ) -> Result<String, AllocError> {
     match origin {
         Some(origin) if !origin.text.is_empty() => words.page.put(origin.text.as_bytes()),
@@ -443,7 +443,7 @@ impl<'a, N: Names> Planner<'a, N> {
         let origin = scene.steps.of_line(here.row);
         row.line = origin.map(|origin| origin.line);
         spell_step(&mut self.word, &kept);
-        let step = Spelled {
+        let step = Entered {
             core: kept.core,
             thread: here.thread,
             entry: entry_part(spelled(&self.word)),
@@ -556,7 +556,7 @@ impl<'a, N: Names> Planner<'a, N> {
         row.thread = Some(away.thread);
         let origin = scene.steps.of_skipped(place);
         row.line = origin.map(|origin| origin.line);
-        let step = Spelled {
+        let step = Entered {
             core: away.core,
             thread: away.thread,
             entry: entry_part(away.text.as_str()),
