@@ -3,6 +3,7 @@ use crate::forms::is_sequence;
 use crate::places::is_clear;
 use mcs_lab_render::{Asked, Format, draw_script};
 use mcs_sim::Source;
+use mcs_types::ObjId;
 use std::alloc::{AllocError, Global};
 use std::io::Read;
 use std::str;
@@ -43,6 +44,40 @@ pub fn look_at<R: Read + Drop>(
         Ok(Some(flaw)) => flaw,
         Ok(None) if drawn.as_slice() == kept => "as kept",
         Ok(None) => "NOT AS KEPT",
+        Err(_) => "OUT OF MEMORY",
+    }
+}
+
+/// Returns how many lanes a page has, by their heads.
+fn count_lanes(page: &[u8]) -> usize {
+    match str::from_utf8(page) {
+        Ok(page) => page
+            .lines()
+            .filter(|line| line.starts_with("<rect class=\"head\""))
+            .count(),
+        Err(_) => 0,
+    }
+}
+
+/// Draws a script with the lanes of these threads, and tells whether it has these, and whether its
+/// texts stand clear.
+pub fn look_at_lanes<R: Read + Drop>(
+    alloc: Global,
+    script: R,
+    threads: &[ObjId],
+) -> &'static str {
+    let mut drawn = Vec::new(alloc);
+    let asked = Asked {
+        threads,
+        ..Asked::whole(Format::Svg)
+    };
+    if draw_script(alloc, &mut Source::new(script), &mut drawn, &asked).is_err() {
+        return "NOT DRAWN";
+    }
+    match flaw_of(alloc, drawn.as_slice(), Format::Svg) {
+        Ok(Some(flaw)) => flaw,
+        Ok(None) if count_lanes(drawn.as_slice()) == threads.len() => "a lane each",
+        Ok(None) => "NOT A LANE EACH",
         Err(_) => "OUT OF MEMORY",
     }
 }
