@@ -49,8 +49,11 @@ impl Model for Strokes {
 
     ghost Value = { Strokes };
 
-    ghost view = { λ s. record { sent = s.sent.items; raised = s.raised.items;
-        arrows = s.arrows.items } };
+    ghost view = { λ s. record {
+      sent = s.sent.items;
+      raised = s.raised.items;
+      arrows = s.arrows.items;
+    } };
 }
 
 /// A thread in the row of a point.
@@ -74,11 +77,7 @@ fn lengthen(raised: &mut Vec<Option<Point>>, count: usize) -> Result<(), AllocEr
 
 /// Writes where the notification of a serial was raised, which has no place yet.
 #[tactic(auto, using(crate::proofs::RaiseLaws::raised_beyond))]
-fn add_raised(
-    raised: &mut Vec<Option<Point>>,
-    serial: u32,
-    here: Point,
-) -> Result<(), AllocError>
+fn add_raised(raised: &mut Vec<Option<Point>>, serial: u32, here: Point) -> Result<(), AllocError>
     requires { length raised.old.items ≤ serial }
     ensures { OnOk result (raised.new.items ≡ raised_with raised.old.items serial here) }
 {
@@ -89,11 +88,7 @@ fn add_raised(
 
 /// Writes where the notification of a serial was raised.
 #[tactic(auto, using(crate::proofs::RaiseLaws::raised_within))]
-fn write_raised(
-    raised: &mut Vec<Option<Point>>,
-    serial: u32,
-    here: Point,
-) -> Result<(), AllocError>
+fn write_raised(raised: &mut Vec<Option<Point>>, serial: u32, here: Point) -> Result<(), AllocError>
     ensures { OnOk result (raised.new.items ≡ raised_with raised.old.items serial here) }
 {
     let place = serial as usize;

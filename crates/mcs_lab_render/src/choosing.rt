@@ -48,7 +48,11 @@ fn object_named(names: &Names, word: &[u8]) -> Option<ObjId> {
 fn thread_of(names: &Names, count: u32, word: &[u8]) -> Option<ObjId> {
     let object = object_named(names, word)?;
     let place = object.place(Kind::Thread)?;
-    if place < count as usize { Some(object) } else { None }
+    if place < count as usize {
+        Some(object)
+    } else {
+        None
+    }
 }
 
 /// Returns the names of the first threads, with commas between.

@@ -78,7 +78,12 @@ fn entry_part(step: &str) -> &str {
 }
 
 /// Puts a step with the name of its thread, and with its core where there are several.
-fn put_spelled<N: Names>(alloc: Global, words: &mut Words, scene: &Scene<'_, N>, step: Entered<'_>) {
+fn put_spelled<N: Names>(
+    alloc: Global,
+    words: &mut Words,
+    scene: &Scene<'_, N>,
+    step: Entered<'_>,
+) {
     if scene.drawing.book().cores() > 1 {
         words.page.number(step.core.0 as u64);
         words.page.put(b" ");
@@ -525,9 +530,7 @@ impl<'a, N: Names> Planner<'a, N> {
         let mut row = self.row_of(line, here)?;
         self.add_records(&mut row, line, here)?;
         self.add_lanes(&mut row, line, here)?;
-        let is_seen = row.thread.is_some()
-            || self.count() > before
-            || self.changes_look(here.row);
+        let is_seen = row.thread.is_some() || self.count() > before || self.changes_look(here.row);
         self.end_line(row, is_seen)
     }
 

@@ -228,11 +228,7 @@ fn page_with(
 }
 
 /// The page of a script that was taken whole; None where it has no boot.
-fn page_of(
-    alloc: Global,
-    script: &Script,
-    asked: &Asked<'_>,
-) -> Result<Option<String>, LabFault> {
+fn page_of(alloc: Global, script: &Script, asked: &Asked<'_>) -> Result<Option<String>, LabFault> {
     let Some(kernel) = script.judge.kernel() else {
         return Ok(None);
     };

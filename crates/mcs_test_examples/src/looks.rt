@@ -50,22 +50,21 @@ pub fn look_at<R: Read + Drop>(
 
 /// Returns how many lanes a page has, by their heads.
 fn count_lanes(page: &[u8]) -> usize {
-    match str::from_utf8(page) {
-        Ok(page) => page
-            .lines()
-            .filter(|line| line.starts_with("<rect class=\"head\""))
-            .count(),
-        Err(_) => 0,
+    let Ok(page) = str::from_utf8(page) else {
+        return 0;
+    };
+    let mut count: usize = 0;
+    for line in page.lines() {
+        if line.starts_with("<rect class=\"head\"") {
+            count = count.saturating_add(1);
+        }
     }
+    count
 }
 
 /// Draws a script with the lanes of these threads, and tells whether it has these, and whether its
 /// texts stand clear.
-pub fn look_at_lanes<R: Read + Drop>(
-    alloc: Global,
-    script: R,
-    threads: &[ObjId],
-) -> &'static str {
+pub fn look_at_lanes<R: Read + Drop>(alloc: Global, script: R, threads: &[ObjId]) -> &'static str {
     let mut drawn = Vec::new(alloc);
     let asked = Asked {
         threads,

@@ -204,7 +204,9 @@ fn tell_no_threads(rt: &HostRuntime, fault: NoThreads<'_>) -> Result<u8, LabFaul
         NoThreads::OutOfMemory => Err(LabFault::OutOfMemory),
         NoThreads::Word { word, there } => {
             let word = Shown { text: word };
-            let _ = eprintln!(rt; "mcslab: --threads: there is no thread {word}; there are {there}");
+            let _ = eprintln!(rt;
+                "mcslab: --threads: there is no thread {word}; there are {there}"
+            );
             Ok(Outcome::Call.status())
         }
     }
