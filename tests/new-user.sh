@@ -40,6 +40,8 @@ grep -q "^1\\.\\.$(grep -c '^?' first.plan)\$" out || fails "not each line is ch
 grep -q '^ok 1 - line [0-9]*: fs got 42 1 0x1000$' out || fails "a verdict is not the plan's line"
 ends 0 draw first.plan
 grep -q '<title>A client and a passive file server</title>' out || fails "no picture"
+ends 0 draw --threads client first.plan
+[ "$(grep -c '<rect class="head"' out)" -eq 1 ] || fails "--threads client: not one lane"
 ends 0 draw --format html first.plan
 grep -q '<html' out || fails "no page"
 ends 0 why first.plan

@@ -21,6 +21,10 @@ for script in "$data"/*.mcs "$tests"/../examples/*.mcs; do
     node --experimental-websocket "$tests/step-through.mjs" "$folder/$name.html"
 done
 
+# some lanes alone: lines that reach none of them have no row
+"$program" draw --format html --threads files,reader "$data/passive-server.mcs" > "$folder/lanes.html"
+node --experimental-websocket "$tests/step-through.mjs" "$folder/lanes.html"
+
 # a page with four lanes, and one with fourteen
 {
     printf '# Fourteen threads signal, one after the other.\ncores 1\ncnode 4\nnotification\n'
@@ -36,4 +40,5 @@ if [ "$keep" = --keep ]; then
     for kept in "$data"/*.svg "$data"/*.mmd "$data"/*.html "$tests"/../examples/*.svg; do
         cp "$folder/$(basename "$kept")" "$kept"
     done
+    "$program" draw "$data/../explore/disk-log-end.mcs" > "$data/../explore/disk-log.svg"
 fi

@@ -19,12 +19,19 @@ for plan in "$data"/gallery/*.plan "$data"/plans/*.plan; do
     "$program" compile "$plan" | cmp - "$kept" || { echo "plans.sh: $plan"; exit 1; }
     "$program" compile <"$plan" | cmp - "$kept" || { echo "plans.sh: $plan"; exit 1; }
     "$program" check "$kept" >"$work/verdicts" || { echo "plans.sh: $kept"; cat "$work/verdicts"; exit 1; }
-    # with the plan itself each verdict is that of its own line, and the picture is the same
+    # with the plan itself each verdict is that of its own line, and the picture has the same arrows, and the plan's lines
     "$program" check "$plan" >"$work/verdicts" || { echo "plans.sh: $plan"; cat "$work/verdicts"; exit 1; }
     sed -n 's/^ok [0-9]* - line \([0-9]*\): .*/\1/p' "$work/verdicts" >"$work/lines"
     grep -n '^[[:space:]]*?' "$plan" | cut -d: -f1 | cmp - "$work/lines" || { echo "plans.sh: lines of $plan"; exit 1; }
-    "$program" draw "$kept" >"$work/picture"
-    "$program" draw --plan <"$plan" | cmp - "$work/picture" || { echo "plans.sh: picture of $plan"; exit 1; }
+    "$program" draw --format mermaid "$kept" | grep -v ': .* = refused\| turned away' >"$work/picture"
+    "$program" draw --format mermaid --plan <"$plan" | grep -v ': .* = refused\| turned away' | cmp - "$work/picture" ||
+        { echo "plans.sh: picture of $plan"; exit 1; }
+    "$program" draw "$plan" | sed -n 's/^<text class="number" x="100" y="[0-9]*">\([0-9]*\)<.*/\1/p' >"$work/lines"
+    grep -nE '^ *[A-Za-z0-9._-]+ *:|^thread .*passive' "$plan" | cut -d: -f1 >"$work/steps"
+    [ -s "$work/lines" ] || { echo "plans.sh: no lines of $plan in its picture"; exit 1; }
+    sort -u "$work/lines" | while read -r line; do
+        grep -qx "$line" "$work/steps" || { echo "plans.sh: $plan has no step in line $line"; exit 1; }
+    done
     tried=$((tried + 1))
 done
 "$program" compile --map "$data/gallery/own-spaces.plan" | cmp - "$data/gallery/own-spaces.map"

@@ -77,6 +77,11 @@ ends 64 'there is no line 99 in the script, which has 34' draw --to 99 $script
 ends 64 'mcslab: no step in these lines took effect' draw --from 1 --to 2 $script
 ends 0 '' draw --from 24 --to 24 $script
 ends 64 'mcslab: no step in these lines took effect' draw --from 31 --to 34 $script
+ends 64 'mcslab: --threads: there is no thread "nobody"; there are ' draw --threads t1,nobody $script
+ends 64 'mcslab: --threads: there is no thread "\x1b"' draw --threads "$(printf '\033')" $script
+ends 64 'mcslab: --threads: there is no thread ""' draw --threads t1, $script
+ends 64 'mcslab: --threads: there is no thread "e1"' draw --threads e1 $script
+ends 0 '' draw --threads t2,t1,t2 $script
 for command in check why state json draw; do
     ends 8 'read fault' $command --plan <"$work"
     ends 64 'No such file' $command "$work/none.plan" </dev/null

@@ -60,7 +60,12 @@ try {
   want(end > first, 'the slider has no lines');
   const shows = async line => {
     want(Number(await value("document.getElementById('number').textContent")) === line, 'not at line ' + line);
-    want(await value("document.querySelector('g.row.here').dataset.line") === String(line), 'another row is marked at ' + line);
+    // a line that reaches no lane has no row: the one before it is marked
+    const row = await value("Math.max(...[...document.querySelectorAll('g.row')].map(row => Number(row.dataset.line))" +
+      '.filter(number => number <= ' + line + '))');
+    want(await value("document.querySelector('g.row.here').dataset.line") === String(row), 'another row is marked at ' + line);
+    const told = await value("document.getElementById('step').textContent");
+    want(row === line || told === 'Line ' + line + ' reaches no thread that is shown.', 'another step is told at ' + line);
     want(await value("document.querySelectorAll('#states li').length > 0"), 'no states at line ' + line);
     want(await value("[...document.querySelectorAll('path.arrow[data-line]')].every(arrow => " +
       "arrow.classList.contains('past') === (Number(arrow.dataset.line) > " + line + '))'), 'arrows at line ' + line);

@@ -1,4 +1,5 @@
 pub mod StrokeLaws
+pub mod RaiseLaws
 pub mod EndLaws
 pub mod LookLaws
 pub mod DrawnLaws

@@ -1,7 +1,7 @@
 //! The arrows of a picture: each message from its sender to its taker, each answer, and each word
-//! that was heard.
-ghost use Rattle.std.specs.Prelude.{◌≡◌, IfOk, OnOk};
-ghost use Rattle.mcs_lab_diagram.specs.Arrows.{beside, no_strokes, start_of, with_arrow, with_record, with_records};
+//! from who raised its notification last to who heard it.
+ghost use Rattle.std.specs.Prelude.{◌≡◌, ◌≤◌, ◌-◌, ◌++◌, None, IfOk, OnOk, length, replicate, take};
+ghost use Rattle.mcs_lab_diagram.specs.Arrows.{beside, no_strokes, raise_of, raised_with, start_of, with_arrow, with_raise, with_record, with_records};
 
 use mcs_book::Line;
 use mcs_packing::KeptRecord;
@@ -35,10 +35,12 @@ pub struct Arrow {
     pub to: Point,
 }
 
-/// Where each message was sent from, and the arrows, in the order of their records.
+/// Where each message was sent from, where each notification was raised last, by its serial, and
+/// the arrows, in the order of their records.
 #[derive(Drop)]
 pub struct Strokes {
     sent: Vec<Point>,
+    raised: Vec<Option<Point>>,
     arrows: Vec<Arrow>,
 }
 
@@ -47,7 +49,11 @@ impl Model for Strokes {
 
     ghost Value = { Strokes };
 
-    ghost view = { λ s. record { sent = s.sent.items; arrows = s.arrows.items } };
+    ghost view = { λ s. record {
+      sent = s.sent.items;
+      raised = s.raised.items;
+      arrows = s.arrows.items;
+    } };
 }
 
 /// A thread in the row of a point.
@@ -60,6 +66,39 @@ fn beside(here: Point, thread: ObjId) -> Point
     }
 }
 
+/// Lengthens a list to so many places.
+fn lengthen(raised: &mut Vec<Option<Point>>, count: usize) -> Result<(), AllocError>
+    ensures { OnOk result (raised.new.items ≡ take count raised.old.items
+        ++ replicate (count - length raised.old.items) None) }
+{
+    raised.resize(count, None)?;
+    Ok(())
+}
+
+/// Writes where the notification of a serial was raised, which has no place yet.
+#[tactic(auto, using(crate::proofs::RaiseLaws::raised_beyond))]
+fn add_raised(raised: &mut Vec<Option<Point>>, serial: u32, here: Point) -> Result<(), AllocError>
+    requires { length raised.old.items ≤ serial }
+    ensures { OnOk result (raised.new.items ≡ raised_with raised.old.items serial here) }
+{
+    lengthen(raised, serial as usize)?;
+    raised.push(Some(here))?;
+    Ok(())
+}
+
+/// Writes where the notification of a serial was raised.
+#[tactic(auto, using(crate::proofs::RaiseLaws::raised_within))]
+fn write_raised(raised: &mut Vec<Option<Point>>, serial: u32, here: Point) -> Result<(), AllocError>
+    ensures { OnOk result (raised.new.items ≡ raised_with raised.old.items serial here) }
+{
+    let place = serial as usize;
+    if place < raised.len() {
+        raised[place] = Some(here);
+        return Ok(());
+    }
+    add_raised(raised, serial, here)
+}
+
 impl Strokes {
     /// Before the first line.
     pub fn new(alloc: Global) -> Strokes
@@ -67,6 +106,7 @@ impl Strokes {
     {
         Strokes {
             sent: Vec::new(alloc),
+            raised: Vec::new(alloc),
             arrows: Vec::new(alloc),
         }
     }
@@ -78,6 +118,16 @@ impl Strokes {
         match self.sent.get(message as usize) {
             Some(point) => *point,
             None => here,
+        }
+    }
+
+    /// Where a notification was raised last; this point where it was not raised.
+    fn raise_of(&self, here: Point, notification: ObjId) -> Point
+        ensures { result ≡ raise_of self.now here notification }
+    {
+        match self.raised.get(notification.serial as usize) {
+            Some(Some(point)) => *point,
+            Some(None) | None => here,
         }
     }
 
@@ -94,6 +144,13 @@ impl Strokes {
     {
         self.arrows.push(Arrow { shown, from, to })?;
         Ok(())
+    }
+
+    /// Notes that a notification is raised here.
+    fn add_raise(&mut self, notification: ObjId, here: Point) -> Result<(), AllocError>
+        ensures { OnOk result (self.new ≡ with_raise self.old notification here) }
+    {
+        write_raised(&mut self.raised, notification.serial, here)
     }
 
     /// Adds what a record draws, in the row in which this thread enters.
@@ -116,7 +173,11 @@ impl Strokes {
                 thread,
                 notification,
                 ..
-            } => self.add(Shown::Word(*notification), here, beside(here, *thread)),
+            } => {
+                let from = self.raise_of(here, *notification);
+                self.add(Shown::Word(*notification), from, beside(here, *thread))
+            }
+            Rec::Raised { notification, .. } => self.add_raise(*notification, here),
             _ => Ok(()),
         }
     }

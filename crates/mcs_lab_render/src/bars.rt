@@ -2,7 +2,8 @@
 use crate::naming::{Names, put_full_name};
 use crate::notes::{is_ready, put_look, put_whole_look};
 use crate::paper::{Area, put_area, put_attribute};
-use crate::plans::{ARROW_AT, HEAD, Plan, Row, RowKind};
+use crate::plans::Plan;
+use crate::scene::{Scene, place_of};
 use crate::texts::Words;
 use mcs_lab_diagram::{Drawing, Look};
 use mcs_lab_inspect::Page;
@@ -31,15 +32,6 @@ impl Bar {
     /// Returns whether a thread looks as in another bar.
     fn is_like(&self, other: Bar) -> bool {
         self.look == other.look && self.is_picked == other.is_picked
-    }
-}
-
-/// Where in a row what it changes is seen.
-pub fn event_of(row: &Row) -> u64 {
-    if row.kind == RowKind::Start {
-        HEAD.saturating_add(8)
-    } else {
-        row.top.saturating_add(ARROW_AT)
     }
 }
 
@@ -162,7 +154,7 @@ impl<'a, N: Names> Lane<'a, N> {
         }
     }
 
-    /// Takes how the thread looks in a row: the bar goes on, or ends where this one begins.
+    /// Takes how the thread looks behind a line: the bar goes on, or ends where this one begins.
     fn take(&mut self, words: &mut Words, to: &mut Page, next: Bar) {
         let current = self.current;
         self.current = match current {
@@ -178,37 +170,43 @@ impl<'a, N: Names> Lane<'a, N> {
     }
 }
 
-/// Returns how a thread looks in a row.
-fn bar_of(drawing: &Drawing, row: &Row, lane: usize) -> Bar {
+/// Returns how a thread looks behind a line, which is seen at this height.
+fn bar_of(drawing: &Drawing, thread: ObjId, number: usize, top: u64) -> Bar {
     Bar {
-        look: drawing.look(row.number, lane),
-        is_picked: drawing.is_picked(row.number, drawing.thread(lane)),
-        first: row.number,
-        last: row.number,
-        top: event_of(row),
+        look: drawing.look(number, place_of(thread)),
+        is_picked: drawing.is_picked(number, thread),
+        first: number,
+        last: number,
+        top,
     }
 }
 
-/// Puts the bars of all lanes.
-pub fn put_bars<N: Names>(
+/// Puts the bars of the lane of a thread, at its place.
+fn put_lane<N: Names>(
     words: &mut Words,
     to: &mut Page,
-    names: &N,
-    drawing: &Drawing,
+    scene: &Scene<'_, N>,
     plan: &Plan,
+    thread: ObjId,
+    x: u64,
 ) {
-    for (at, x) in plan.lanes.iter().enumerate() {
-        let mut lane = Lane {
-            names,
-            thread: drawing.thread(at),
-            x: *x,
-            current: None,
-        };
-        for row in plan.rows.iter() {
-            if row.kind != RowKind::Away {
-                lane.take(words, to, bar_of(drawing, row, at));
-            }
-        }
-        lane.end(words, to, plan.end);
+    let mut lane = Lane {
+        names: scene.names,
+        thread,
+        x,
+        current: None,
+    };
+    for (at, top) in plan.events.iter().enumerate() {
+        let number = plan.before.saturating_add(at);
+        lane.take(words, to, bar_of(scene.drawing, thread, number, *top));
+    }
+    lane.end(words, to, plan.end);
+}
+
+/// Puts the bars of all lanes.
+pub fn put_bars<N: Names>(words: &mut Words, to: &mut Page, scene: &Scene<'_, N>, plan: &Plan) {
+    for (lane, thread) in plan.threads.iter().enumerate() {
+        let x = plan.lanes.get(lane).copied().unwrap_or(0);
+        put_lane(words, to, scene, plan, *thread, x);
     }
 }

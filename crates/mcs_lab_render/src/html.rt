@@ -3,9 +3,10 @@
 //! both scroll by themselves, so neither hides the other. The heads of the lanes stay in sight.
 use crate::naming::Names;
 use crate::paper::put_attribute;
+use crate::scene::Scene;
 use crate::svg::svg_of;
 use crate::texts::{put_escaped, take_text};
-use mcs_lab_diagram::{Drawing, Window};
+use mcs_lab_diagram::Window;
 use mcs_lab_inspect::Page;
 use std::alloc::{AllocError, Global};
 
@@ -109,7 +110,8 @@ const BEHIND: &str = ">
   band.setAttribute('class', 'band');
   band.setAttribute('width', '100%');
   ground.after(band);
-  const mark = at => {
+  // marks the row of a line, or the one before it where the line reaches no lane that is shown
+  const mark = (at, line) => {
     const row = rows[at];
     const [top, bottom] = [edges[at], edges[at + 1]];
     row.classList.add('here');
@@ -119,8 +121,10 @@ const BEHIND: &str = ">
     if (top - above < main.scrollTop || bottom > main.scrollTop + main.clientHeight)
       main.scrollTop = top - above - Math.max(0, seen - (bottom - top)) / 3;
     const texts = [...row.querySelectorAll('text:not(.number)')].map(text => text.textContent);
-    const number = row.querySelector('.number') ? 'Line ' + row.dataset.line + ': ' : '';
-    find('step').textContent = number + texts.join(' ');
+    const [, file] = [...row.querySelectorAll('.number')].map(text => text.textContent);
+    const number = file ? 'Line ' + line + ' (line ' + file + ' of the file): ' : '';
+    find('step').textContent = Number(row.dataset.line) === line ? number + texts.join(' ')
+      : 'Line ' + line + ' reaches no thread that is shown.';
   };
   const show = () => {
     const line = Number(slider.value);
@@ -129,8 +133,8 @@ const BEHIND: &str = ">
     find('back').disabled = slider.value === slider.min;
     find('next').disabled = slider.value === slider.max;
     for (const row of rows) row.classList.remove('here');
-    const at = rows.findIndex(row => Number(row.dataset.line) === line);
-    if (at >= 0) mark(at);
+    const at = rows.findLastIndex(row => Number(row.dataset.line) <= line);
+    if (at >= 0) mark(at, line);
     const states = find('states');
     states.replaceChildren();
     for (const bar of bars) {
@@ -183,17 +187,14 @@ fn put_slider(to: &mut Page, shown: Window) {
     put_attribute(to, b" value=\"", shown.first.min(shown.last) as u64);
 }
 
-/// Returns the picture of a window of a drawing, as a page with this title that needs no other. It
-/// begins at the first line that is shown.
+/// Returns the picture of a scene, as a page with this title that needs no other. It begins at the
+/// first line that is shown.
 pub fn html_of<N: Names>(
     alloc: Global,
-    drawing: &Drawing,
-    names: &N,
-    window: Window,
+    scene: &Scene<'_, N>,
     title: &str,
 ) -> Result<String, AllocError> {
-    let shown = drawing.shown(window);
-    let picture = svg_of(alloc, drawing, names, window, title)?;
+    let picture = svg_of(alloc, scene, title)?;
     let mut page = Page::new(alloc)?;
     page.put(HEAD.as_bytes());
     put_escaped(&mut page, title);
@@ -202,7 +203,7 @@ pub fn html_of<N: Names>(
     page.put(BETWEEN.as_bytes());
     put_escaped(&mut page, title);
     page.put(PANEL.as_bytes());
-    put_slider(&mut page, shown);
+    put_slider(&mut page, scene.window);
     page.put(BEHIND.as_bytes());
     take_text(alloc, &mut page)
 }

@@ -3,9 +3,10 @@ use crate::bars::{put_coloured, put_state};
 use crate::naming::{Names, put_full_name};
 use crate::notes::is_ready;
 use crate::paper::{Area, put_area, put_far, put_lost_line, put_point, put_text};
-use crate::plans::{COLUMN, NoteKind, Plan, RowKind, SLOT};
+use crate::plans::{COLUMN, Plan, SLOT};
+use crate::scene::{Scene, place_of};
 use crate::texts::{Words, columns};
-use mcs_lab_diagram::{Drawing, Look, Window};
+use mcs_lab_diagram::{Drawing, Look};
 use mcs_lab_inspect::Page;
 use mcs_types::{Kind, ObjId};
 
@@ -33,27 +34,30 @@ fn put_place(to: &mut Page, drawing: &Drawing, last: usize) {
     to.count(last);
 }
 
-/// Puts what every thread does at the end, a line each, and gives the height below them.
+/// Puts what a thread does at the end.
+fn put_thread<N: Names>(to: &mut Page, scene: &Scene<'_, N>, thread: ObjId) {
+    let last = scene.window.last;
+    let look: Look = scene.drawing.look(last, place_of(thread));
+    put_full_name(to, scene.names, thread);
+    to.put(b" ");
+    let is_picked = scene.drawing.is_picked(last, thread);
+    put_state(to, scene.names, look, is_picked);
+}
+
+/// Puts what every thread with a lane does at the end, a line each, and gives the height below
+/// them.
 pub fn put_end<N: Names>(
     words: &mut Words,
     to: &mut Page,
-    names: &N,
-    drawing: &Drawing,
+    scene: &Scene<'_, N>,
     plan: &Plan,
-    window: Window,
 ) -> u64 {
     let mut y = plan.end.saturating_add(24);
-    let last = window.last;
-    put_place(&mut words.page, drawing, last);
+    put_place(&mut words.page, scene.drawing, scene.window.last);
     put_line_of(words, to, "strong", y);
-    for lane in 0..drawing.threads() {
+    for thread in scene.threads {
         y = y.saturating_add(SLOT);
-        let thread = drawing.thread(lane);
-        let look: Look = drawing.look(last, lane);
-        put_full_name(&mut words.page, names, thread);
-        words.page.put(b" ");
-        let is_picked = drawing.is_picked(last, thread);
-        put_state(&mut words.page, names, look, is_picked);
+        put_thread(&mut words.page, scene, *thread);
         put_line_of(words, to, "state", y);
     }
     y
@@ -135,20 +139,13 @@ fn seen_in(drawing: &Drawing, plan: &Plan) -> Seen {
     let mut seen = Seen {
         is_passed_over: false,
         is_bare: false,
-        is_lost: false,
+        is_lost: plan.notes.iter().any(|note| note.kind.is_lost()),
     };
-    for row in plan.rows.iter() {
-        if row.kind == RowKind::Away {
-            continue;
-        }
-        for lane in 0..drawing.threads() {
-            let is_picked = drawing.is_picked(row.number, drawing.thread(lane));
-            seen.see(drawing.look(row.number, lane), is_picked);
-        }
-    }
-    for note in plan.notes.iter() {
-        if note.kind == NoteKind::Lost {
-            seen.is_lost = true;
+    for at in 0..plan.events.len() {
+        let number = plan.before.saturating_add(at);
+        for thread in plan.threads.iter() {
+            let is_picked = drawing.is_picked(number, *thread);
+            seen.see(drawing.look(number, place_of(*thread)), is_picked);
         }
     }
     seen
@@ -175,16 +172,15 @@ fn put_context(to: &mut Page, legend: &mut Legend, context: ObjId, text: &str) {
 fn put_contexts<N: Names>(
     words: &mut Words,
     to: &mut Page,
-    names: &N,
-    drawing: &Drawing,
+    scene: &Scene<'_, N>,
     legend: &mut Legend,
 ) {
-    for serial in 1..=drawing.kernel.made(Kind::Context) {
+    for serial in 1..=scene.drawing.kernel.made(Kind::Context) {
         let context = ObjId {
             kind: Kind::Context,
             serial,
         };
-        put_context_name(&mut words.page, names, drawing, context);
+        put_context_name(&mut words.page, scene.names, scene.drawing, context);
         match words.take() {
             Ok(text) => put_context(to, legend, context, text.as_str()),
             Err(_) => to.cut(),
@@ -196,8 +192,7 @@ fn put_contexts<N: Names>(
 pub fn put_legend<N: Names>(
     words: &mut Words,
     to: &mut Page,
-    names: &N,
-    drawing: &Drawing,
+    scene: &Scene<'_, N>,
     plan: &Plan,
     above: u64,
 ) -> u64 {
@@ -206,8 +201,8 @@ pub fn put_legend<N: Names>(
         y: above.saturating_add(30),
         width: plan.width,
     };
-    put_contexts(words, to, names, drawing, &mut legend);
-    let seen = seen_in(drawing, plan);
+    put_contexts(words, to, scene, &mut legend);
+    let seen = seen_in(scene.drawing, plan);
     put_bar_kinds(to, &mut legend, seen);
     put_arrow_kinds(to, &mut legend, seen);
     legend.y

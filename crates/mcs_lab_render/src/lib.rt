@@ -3,22 +3,24 @@
 #![tactic(auto)]
 
 mod bars;
+mod choosing;
 mod html;
+mod layout;
 mod legend;
 mod mermaid;
 mod naming;
 mod notes;
+mod numbers;
 mod paper;
 mod plans;
+mod scene;
 mod script_names;
 mod scripts;
+mod steps;
 mod svg;
 mod texts;
 mod titles;
 
-pub use html::html_of;
+pub use choosing::{NoThreads, threads_named};
 pub use mcs_lab_diagram::Window;
-pub use mermaid::mermaid_of;
-pub use naming::Names;
-pub use scripts::{Format, draw_script};
-pub use svg::svg_of;
+pub use scripts::{Asked, Format, draw_script};

@@ -1,8 +1,10 @@
 //! The picture as a `sequenceDiagram` of Mermaid.
+use crate::layout::plan_of;
 use crate::naming::{Names, put_full_name, put_id};
-use crate::plans::{Note, NoteKind, Plan, Row, RowKind, Stroke, plan_of};
+use crate::plans::{Note, NoteKind, Plan, Row, RowKind, Stroke};
+use crate::scene::Scene;
 use crate::texts::{Words, take_text};
-use mcs_lab_diagram::{Drawing, Shown, Window};
+use mcs_lab_diagram::Shown;
 use mcs_lab_inspect::Page;
 use mcs_types::ObjId;
 use std::alloc::{AllocError, Global};
@@ -114,9 +116,12 @@ fn put_over(to: &mut Page, thread: ObjId) {
 }
 
 /// Puts what is written beside a lane; what an arrow says is at the arrow.
-fn put_note(to: &mut Page, drawing: &Drawing, note: &Note) {
-    if note.kind != NoteKind::Label {
-        put_over(to, drawing.thread(note.lane));
+fn put_note(to: &mut Page, plan: &Plan, note: &Note) {
+    let Some(thread) = plan.threads.get(note.lane) else {
+        return;
+    };
+    if !matches!(note.kind, NoteKind::Label) {
+        put_over(to, *thread);
         put_plain(to, note.text.as_str());
     }
 }
@@ -144,41 +149,36 @@ fn put_messages(to: &mut Page, strokes: &[Stroke], first: usize, row: usize) -> 
 }
 
 /// Puts the same of what is written beside lanes.
-fn put_notes(to: &mut Page, drawing: &Drawing, notes: &[Note], first: usize, row: usize) -> usize {
-    for at in first..notes.len() {
-        match notes.get(at) {
-            Some(note) if note.row == row => put_note(to, drawing, note),
+fn put_notes(to: &mut Page, plan: &Plan, first: usize, row: usize) -> usize {
+    for at in first..plan.notes.len() {
+        match plan.notes.get(at) {
+            Some(note) if note.row == row => put_note(to, plan, note),
             _ => return at,
         }
     }
-    notes.len()
+    plan.notes.len()
 }
 
 /// Puts the rows of a page.
-fn put_rows(to: &mut Page, drawing: &Drawing, plan: &Plan) {
+fn put_rows(to: &mut Page, plan: &Plan) {
     let mut stroke = 0;
     let mut note = 0;
     for (at, row) in plan.rows.iter().enumerate() {
         put_idle_step(to, row);
         stroke = put_messages(to, plan.strokes.as_slice(), stroke, at);
-        note = put_notes(to, drawing, plan.notes.as_slice(), note, at);
+        note = put_notes(to, plan, note, at);
     }
 }
 
-/// The picture of a window of a drawing, as Mermaid's text.
-pub fn mermaid_of<N: Names>(
-    alloc: Global,
-    drawing: &Drawing,
-    names: &N,
-    window: Window,
-) -> Result<String, AllocError> {
-    let plan = plan_of(alloc, drawing, names, drawing.shown(window))?;
+/// Returns the picture of a scene, as Mermaid's text.
+pub fn mermaid_of<N: Names>(alloc: Global, scene: &Scene<'_, N>) -> Result<String, AllocError> {
+    let plan = plan_of(alloc, scene)?;
     let mut words = Words::new(alloc)?;
     let mut page = Page::new(alloc)?;
     page.put(b"sequenceDiagram\n");
-    for lane in 0..drawing.threads() {
-        put_participant(&mut words, &mut page, names, drawing.thread(lane));
+    for thread in scene.threads {
+        put_participant(&mut words, &mut page, scene.names, *thread);
     }
-    put_rows(&mut page, drawing, &plan);
+    put_rows(&mut page, &plan);
     take_text(alloc, &mut page)
 }

@@ -1,5 +1,6 @@
 //! What is written beside lanes and arrows.
 use crate::naming::{Names, put_name, put_queue};
+use crate::numbers::{is_large, put_number};
 use mcs_book::{Book, Line};
 use mcs_lab_diagram::{Arrow, Look, Point, Shown, Strokes};
 use mcs_lab_inspect::Page;
@@ -24,12 +25,37 @@ fn put_said<N: Names>(to: &mut Page, names: &N, object: ObjId, text: &str) {
     to.put(text.as_bytes());
 }
 
-/// Puts the label and the words of a message.
-fn put_message(to: &mut Page, message: &Message) {
-    put_numbered(to, ": ", message.label());
-    for word in message.words() {
-        put_numbered(to, " ", *word);
+/// How many words of a message are in a label; one in hexadecimal counts twice.
+pub const FEW: usize = 4;
+
+/// Puts the words of a message, up to so many.
+fn put_words(alloc: Global, to: &mut Page, words: &[u64], most: usize) {
+    let mut left = most;
+    for (before, word) in words.iter().enumerate() {
+        if before > 0 {
+            to.put(b" ");
+        }
+        let weight: usize = if is_large(*word) { 2 } else { 1 };
+        if weight > left {
+            return to.put("…".as_bytes());
+        }
+        left = left.saturating_sub(weight);
+        put_number(alloc, to, *word);
     }
+}
+
+/// Puts a message, with up to so many of its words: `10(4096 1)`.
+fn put_message(alloc: Global, to: &mut Page, message: &Message, most: usize) {
+    put_number(alloc, to, message.label());
+    to.put(b"(");
+    put_words(alloc, to, message.words(), most);
+    to.put(b")");
+}
+
+/// Puts a text and a word or a badge.
+fn put_valued(alloc: Global, to: &mut Page, text: &str, value: u64) {
+    to.put(text.as_bytes());
+    put_number(alloc, to, value);
 }
 
 /// How a message was sent.
@@ -42,8 +68,8 @@ fn mode_word(mode: SendMode) -> &'static str {
     }
 }
 
-/// Puts what a record says of a message that was sent.
-fn put_sent<N: Names>(to: &mut Page, names: &N, fact: &Rec) {
+/// Puts what a record says of a message that was sent, with up to so many words.
+fn put_sent<N: Names>(alloc: Global, to: &mut Page, names: &N, fact: &Rec, most: usize) {
     if let Rec::Sent {
         endpoint,
         mode,
@@ -54,20 +80,21 @@ fn put_sent<N: Names>(to: &mut Page, names: &N, fact: &Rec) {
     {
         to.put(mode_word(*mode).as_bytes());
         put_named(to, names, " ", *endpoint);
-        put_numbered(to, " badge ", badge.0);
-        put_message(to, message);
+        to.put(b" ");
+        put_message(alloc, to, message, most);
+        put_valued(alloc, to, " badge ", badge.0);
     }
 }
 
-/// Puts the message that a line sent.
-fn put_sent_by<N: Names>(alloc: Global, to: &mut Page, names: &N, line: &Line<'_>) {
+/// Puts the message that a line sent, with up to so many words.
+fn put_sent_by<N: Names>(alloc: Global, to: &mut Page, names: &N, line: &Line<'_>, most: usize) {
     for i in 0..line.record_count() {
         let Some(kept) = line.kept_record(i) else {
             continue;
         };
         if kept.is_sent() {
             return match kept.unpack(alloc) {
-                Ok(fact) => put_sent(to, names, &fact),
+                Ok(fact) => put_sent(alloc, to, names, &fact, most),
                 Err(_) => to.cut(),
             };
         }
@@ -79,8 +106,8 @@ fn put_message_name(to: &mut Page, number: u32) {
     put_numbered(to, "m", number as u64);
 }
 
-/// Puts what the record of an arrow says: the badge, label and words of a message, those of an
-/// answer, or a word.
+/// Puts what the record of an arrow says: the label, words and badge of a message, the label and
+/// words of an answer, or a word. Of a message there are up to so many words.
 pub fn put_label<N: Names>(
     alloc: Global,
     to: &mut Page,
@@ -88,35 +115,36 @@ pub fn put_label<N: Names>(
     book: &Book,
     arrow: &Arrow,
     fact: &Rec,
+    most: usize,
 ) {
     match (arrow.shown, fact) {
         (Shown::Message(number), _) => {
             put_message_name(to, number);
             if let Some(line) = book.line(arrow.from.row) {
-                put_sent_by(alloc, to, names, &line);
+                put_sent_by(alloc, to, names, &line, most);
             }
         }
         (Shown::Answer(reply), Rec::Paid { message, .. }) => {
-            put_said(to, names, reply, " answers");
-            put_message(to, message)
+            put_said(to, names, reply, " answers ");
+            put_message(alloc, to, message, most)
         }
         (Shown::Word(notification), Rec::Heard { word, .. }) => {
             put_name(to, names, notification);
-            put_numbered(to, " heard: ", *word)
+            put_valued(alloc, to, " heard: ", *word)
         }
         _ => {}
     }
 }
 
 /// Puts what an entry sent to nobody.
-pub fn put_lost(to: &mut Page, entry: &Entry) {
-    to.put(b"to nobody");
+pub fn put_lost(alloc: Global, to: &mut Page, entry: &Entry) {
+    to.put(b"to nobody: ");
     match entry {
         Entry::Send { message, .. }
         | Entry::NbSend { message, .. }
         | Entry::ReplyRecv { message, .. }
         | Entry::NbSendRecv { message, .. }
-        | Entry::NbSendWait { message, .. } => put_message(to, message),
+        | Entry::NbSendWait { message, .. } => put_message(alloc, to, message, FEW),
         _ => {}
     }
 }
@@ -191,14 +219,14 @@ fn put_end<N: Names>(to: &mut Page, names: &N, words: &str, object: Option<ObjId
 }
 
 /// Puts the mark of a notification that was raised, or of a context without a holder.
-fn put_word_mark<N: Names>(to: &mut Page, names: &N, fact: &Rec) {
+fn put_word_mark<N: Names>(alloc: Global, to: &mut Page, names: &N, fact: &Rec) {
     match fact {
         Rec::Raised {
             notification,
             badge,
         } => {
             put_name(to, names, *notification);
-            put_numbered(to, " raised: ", badge.0)
+            put_valued(alloc, to, " raised: ", badge.0)
         }
         Rec::Holds { context, .. } => put_said(to, names, *context, " held by none"),
         Rec::Homed {
@@ -228,7 +256,7 @@ fn put_ended<N: Names>(to: &mut Page, names: &N, object: ObjId, text: &str) {
 }
 
 /// Puts the mark of a record.
-pub fn put_mark<N: Names>(to: &mut Page, names: &N, fact: &Rec) {
+pub fn put_mark<N: Names>(alloc: Global, to: &mut Page, names: &N, fact: &Rec) {
     match fact {
         Rec::Dropped { message } => {
             put_numbered(to, "✗ m", *message as u64);
@@ -238,6 +266,6 @@ pub fn put_mark<N: Names>(to: &mut Page, names: &N, fact: &Rec) {
         Rec::Prio { priority, .. } => put_numbered(to, "priority ", priority.0 as u64),
         Rec::Made { object, .. } => put_said(to, names, *object, " made"),
         Rec::Closed { object } => put_ended(to, names, *object, " closed"),
-        _ => put_word_mark(to, names, fact),
+        _ => put_word_mark(alloc, to, names, fact),
     }
 }

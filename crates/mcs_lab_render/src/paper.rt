@@ -94,6 +94,33 @@ pub fn put_lost_line(to: &mut Page, number: Option<usize>, x: u64, y: u64) {
     to.put(b"\"/>\n");
 }
 
+/// Whether a short line leads from its lane or to it.
+#[derive(Clone, Copy)]
+pub enum Way {
+    Off,
+    Back,
+}
+
+/// Puts the short line of an arrow with an end that has no lane, of this line of the book, whose
+/// other end is to the left.
+pub fn put_short_line(to: &mut Page, class: &str, number: Option<usize>, x: u64, y: u64, way: Way) {
+    let end = x.saturating_add(LOST);
+    let (from, far) = match way {
+        Way::Off => (x, end),
+        Way::Back => (end, x),
+    };
+    to.put(b"<path class=\"arrow ");
+    to.put(class.as_bytes());
+    to.put(b"\"");
+    if let Some(number) = number {
+        put_attribute(to, b" data-line=\"", number as u64);
+    }
+    to.put(b" marker-end=\"url(#tip)\" d=\"");
+    put_point(to, b"M", from, y);
+    put_far(to, b"H", far);
+    to.put(b"\"/>\n");
+}
+
 /// The page's styles: colours that most readers tell apart, by Okabe and Ito, on a light and on a
 /// dark ground. The one that looks like an alarm comes last; a text has its hue where a step is
 /// refused.

@@ -1,5 +1,5 @@
 //! The names that a script gives, as a picture asks for them.
-use crate::Names as PaperNames;
+use crate::naming::Names as PaperNames;
 use mcs_lab_check::Names;
 use mcs_types::ObjId;
 use std::str;

@@ -1,15 +1,19 @@
 //! The picture of a script.
+use crate::html::html_of;
+use crate::mermaid::mermaid_of;
+use crate::scene::{Scene, threads_shown};
 use crate::script_names::ScriptNames;
+use crate::steps::{Origin, Steps};
+use crate::svg::svg_of;
 use crate::titles::title_of;
-use crate::{html_of, mermaid_of, svg_of};
 use mcs_book::Book;
 use mcs_kernel::Boot;
 use mcs_lab_check::{Judge, LabFault, Names, TakesLines, Told, take_lines};
 use mcs_lab_diagram::{DrawFault, Drawing, Window};
 use mcs_sim::Source;
 use mcs_text::{Lines, read_step};
-use mcs_types::{Kind, Room, Step};
-use std::alloc::Global;
+use mcs_types::{Kind, ObjId, Room, Step};
+use std::alloc::{AllocError, Global};
 use std::io::{Read, Write};
 use std::marker::Model;
 use std::str;
@@ -23,6 +27,49 @@ pub enum Format {
     Mermaid,
     /// A page with the picture, through which one steps.
     Html,
+}
+
+/// What is drawn of a script, and how it is told.
+#[derive(Clone, Copy)]
+pub struct Asked<'a> {
+    pub format: Format,
+    /// The lines of the book that are shown, as far as they are there.
+    pub window: Window,
+    /// The threads that have lanes, in their order. Where none is named all have one, but for a
+    /// thread `starter` that is inactive behind the last line: by it plans start passive servers.
+    pub threads: &'a [ObjId],
+    /// How the steps are told, by the lines of the script in which they stand: where the text of a
+    /// line is empty or not there, as the script spells it, with the names of threads.
+    pub texts: &'a [String],
+    /// The lines of the file of which those of the script came; a line without a number is its own.
+    pub numbers: &'a [u64],
+}
+
+impl Asked<'_> {
+    /// Asks for all lines of a script that is the file itself.
+    pub fn whole<'a>(format: Format) -> Asked<'a> {
+        Asked {
+            format,
+            window: Window {
+                first: 1,
+                last: usize::MAX,
+            },
+            threads: &[],
+            texts: &[],
+            numbers: &[],
+        }
+    }
+
+    /// Returns the origin of a step in a line of the script.
+    fn origin(&self, alloc: Global, line: u64) -> Result<Origin, AllocError> {
+        let place = line.saturating_sub(1) as usize;
+        let mut text = String::new(alloc);
+        if let Some(told) = self.texts.get(place) {
+            text.push_str(told.as_str())?;
+        }
+        let line = self.numbers.get(place).copied().unwrap_or(line);
+        Ok(Origin { line, text })
+    }
 }
 
 /// A script that is read: its replay, its names, and its lines.
@@ -47,10 +94,11 @@ impl TakesLines for Script {
     }
 }
 
-/// A drawing of all lines of its book.
+/// A drawing of all lines of its book, and where the steps stand.
 #[derive(Drop)]
 struct Drawn {
     drawing: Drawing,
+    steps: Steps,
 }
 
 impl Model for Drawn {
@@ -69,15 +117,28 @@ impl Drawn {
     /// Of the boot.
     fn new(alloc: Global, boot: &Boot) -> Result<Drawn, LabFault> {
         let drawing = Drawing::new(alloc, boot)?;
-        Ok(Drawn { drawing })
+        let steps = Steps::new(alloc);
+        Ok(Drawn { drawing, steps })
     }
 
-    /// With a step more, whose line is this. The faults of a drawing are reported as those of a
-    /// script.
-    fn with_step(self, alloc: Global, step: &Step, line: &str) -> Result<Drawn, LabFault> {
-        let Drawn { mut drawing } = self;
+    /// With a step more, whose line is this, and which stands there. The faults of a drawing are
+    /// reported as those of a script.
+    fn with_step(
+        self,
+        alloc: Global,
+        step: &Step,
+        line: &str,
+        origin: Origin,
+    ) -> Result<Drawn, LabFault> {
+        let Drawn {
+            mut drawing,
+            mut steps,
+        } = self;
         match drawing.enter(alloc, step, line) {
-            Ok(()) => Ok(Drawn { drawing }),
+            Ok(()) => {
+                steps.add(origin, drawing.lines())?;
+                Ok(Drawn { drawing, steps })
+            }
             Err(DrawFault::BookFull) => Err(LabFault::BookFull),
             Err(DrawFault::OutOfMemory) => Err(LabFault::OutOfMemory),
         }
@@ -106,11 +167,16 @@ fn boot_of(alloc: Global, book: &Book) -> Result<Boot, LabFault> {
 }
 
 /// Draws the steps of a script that has no fault.
-fn drawing_of(alloc: Global, boot: &Boot, text: &[u8]) -> Result<Drawn, LabFault> {
+fn drawing_of(
+    alloc: Global,
+    boot: &Boot,
+    text: &[u8],
+    asked: &Asked<'_>,
+) -> Result<Drawn, LabFault> {
     let mut drawn = Drawn::new(alloc, boot)?;
     let mut lines = Lines::new(text);
     let mut room = None;
-    for _ in 0..=text.len() {
+    for before in 0..=text.len() {
         let Some(line) = lines.next_line() else {
             break;
         };
@@ -128,43 +194,58 @@ fn drawing_of(alloc: Global, boot: &Boot, text: &[u8]) -> Result<Drawn, LabFault
             &mut room,
         );
         if let (Ok(step), Ok(said)) = (read, str::from_utf8(line)) {
-            drawn = drawn.with_step(alloc, &step, said)?;
+            let origin = asked.origin(alloc, (before as u64).saturating_add(1))?;
+            drawn = drawn.with_step(alloc, &step, said, origin)?;
         }
     }
     Ok(drawn)
 }
 
-/// The page of a script that was taken whole; None where it has no boot.
-fn page_of(
+/// Returns the page of a drawing.
+fn page_with(
     alloc: Global,
     script: &Script,
-    format: Format,
-    window: Window,
-) -> Result<Option<String>, LabFault> {
+    drawing: &Drawing,
+    steps: &Steps,
+    asked: &Asked<'_>,
+) -> Result<String, AllocError> {
+    let names = ScriptNames(&script.names);
+    let window = drawing.shown(asked.window);
+    let threads = threads_shown(alloc, drawing, &names, asked.threads, window.last)?;
+    let title = title_of(alloc, &script.text)?;
+    let scene = Scene {
+        drawing,
+        names: &names,
+        steps,
+        threads: &threads,
+        window,
+    };
+    match asked.format {
+        Format::Svg => svg_of(alloc, &scene, title.as_str()),
+        Format::Mermaid => mermaid_of(alloc, &scene),
+        Format::Html => html_of(alloc, &scene, title.as_str()),
+    }
+}
+
+/// The page of a script that was taken whole; None where it has no boot.
+fn page_of(alloc: Global, script: &Script, asked: &Asked<'_>) -> Result<Option<String>, LabFault> {
     let Some(kernel) = script.judge.kernel() else {
         return Ok(None);
     };
     let boot = boot_of(alloc, kernel.book())?;
-    let Drawn { drawing } = drawing_of(alloc, &boot, &script.text)?;
-    let names = ScriptNames(&script.names);
-    let title = title_of(alloc, &script.text)?;
-    let page = match format {
-        Format::Svg => svg_of(alloc, &drawing, &names, window, title.as_str())?,
-        Format::Mermaid => mermaid_of(alloc, &drawing, &names, window)?,
-        Format::Html => html_of(alloc, &drawing, &names, window, title.as_str())?,
-    };
+    let Drawn { drawing, steps } = drawing_of(alloc, &boot, &script.text, asked)?;
+    let page = page_with(alloc, script, &drawing, &steps, asked)?;
     Ok(Some(page))
 }
 
-/// Draws a script of steps, or a trace: the lines of the book in a window. Its faults are those of
+/// Draws a script of steps, or a trace, as it is asked for. Its faults are those of
 /// `mcs_lab_check`: a line that is refused, a name without its form, a read, a write, a full book,
 /// or memory that is refused.
 pub fn draw_script<R: Read, W: Write>(
     alloc: Global,
     from: &mut Source<R>,
     to: &mut W,
-    format: Format,
-    window: Window,
+    asked: &Asked<'_>,
 ) -> Result<(), LabFault> {
     let mut script = Script {
         judge: Judge::new(alloc)?,
@@ -173,7 +254,7 @@ pub fn draw_script<R: Read, W: Write>(
     };
     take_lines(alloc, from, &mut script)?;
     script.judge.end(alloc)?;
-    if let Some(page) = page_of(alloc, &script, format, window)? {
+    if let Some(page) = page_of(alloc, &script, asked)? {
         to.write_all(page.as_bytes())?;
     }
     Ok(())

@@ -1,16 +1,19 @@
 //! The picture as SVG.
-use crate::bars::{event_of, put_bars};
+use crate::bars::put_bars;
+use crate::layout::plan_of;
 use crate::legend::{put_end, put_legend};
 use crate::naming::{Names, put_full_name};
 use crate::paper::{
-    Area, LOST_TEXT, STYLE, put_area, put_attribute, put_far, put_lost_line, put_point, put_text,
+    Area, LOST_TEXT, STYLE, Way, put_area, put_attribute, put_far, put_lost_line, put_point,
+    put_short_line, put_text,
 };
 use crate::plans::{
-    ARROW_AT, BESIDE, CLEAR, HEAD, LABEL_AT, NUMBERS_AT, Note, NoteKind, Plan, Row, RowKind, SLOT,
-    STEPS_AT, Stroke, TEXT_AT, gap_of, lane_of, plan_of,
+    ARROW_AT, BESIDE, CLEAR, FILES_AT, HEAD, LABEL_AT, NUMBERS_AT, Note, NoteKind, Plan, RULE, Row,
+    RowKind, SLOT, STEPS_AT, Stroke, TEXT_AT,
 };
+use crate::scene::{Scene, place_of};
 use crate::texts::{Words, columns, put_escaped, take_text};
-use mcs_lab_diagram::{Drawing, Shown, Window};
+use mcs_lab_diagram::Shown;
 use mcs_lab_inspect::Page;
 use std::alloc::{AllocError, Global};
 
@@ -22,8 +25,8 @@ const TIP: u64 = 7;
 
 const TURN: u64 = 23;
 
-/// Within its slot, where the line of a send that reached nobody is.
-const LOST_AT: u64 = 8;
+/// Within its slot, where the short line before a text is.
+const SHORT_AT: u64 = 8;
 
 /// The place of a lane.
 fn lane_at(plan: &Plan, lane: usize) -> u64 {
@@ -42,7 +45,15 @@ fn put_head(to: &mut Page, plan: &Plan, lane: usize, head: &str) {
     };
     put_area(to, "head", area, "");
     put_text(to, "head-text", x, 32, head);
-    if let Some(priority) = plan.priorities.get(lane) {
+    put_priority(to, plan, lane, x);
+}
+
+/// Puts the priority of the thread of a lane.
+fn put_priority(to: &mut Page, plan: &Plan, lane: usize, x: u64) {
+    let Some(thread) = plan.threads.get(lane) else {
+        return;
+    };
+    if let Some(priority) = plan.priorities.get(place_of(*thread)) {
         put_attribute(to, b"<text class=\"head-more\" x=\"", x);
         to.put(b" y=\"48\">priority ");
         to.number(*priority as u64);
@@ -50,9 +61,11 @@ fn put_head(to: &mut Page, plan: &Plan, lane: usize, head: &str) {
     }
 }
 
-/// Puts the heads of the lanes.
+/// Puts the heads of the numbers of lines, and of the lanes.
 fn put_heads(to: &mut Page, plan: &Plan) {
     to.put(b"<g class=\"heads\">\n");
+    put_text(to, "number", NUMBERS_AT, 48, "book");
+    put_text(to, "number", FILES_AT, 48, "file");
     for (lane, head) in plan.heads.iter().enumerate() {
         put_head(to, plan, lane, head.as_str());
     }
@@ -64,7 +77,7 @@ fn put_rule(to: &mut Page, plan: &Plan, row: &Row) {
     put_far(
         to,
         b"<path class=\"rule\" d=\"M8,",
-        row.top.saturating_sub(5),
+        row.top.saturating_sub(RULE),
     );
     put_far(to, b"H", plan.width.saturating_sub(8));
     to.put(b"\"/>\n");
@@ -76,14 +89,27 @@ fn put_row(to: &mut Page, number: usize) {
     to.put(b">");
 }
 
-/// Puts the number of a line, its step and its answer.
+/// Puts the number of a line that ends at a place.
+fn put_number(to: &mut Page, x: u64, y: u64, number: u64) {
+    put_attribute(to, b"<text class=\"number\" x=\"", x);
+    put_attribute(to, b" y=\"", y);
+    to.put(b">");
+    to.number(number);
+    to.put(b"</text>\n");
+}
+
+/// Puts the number of the line of the file with a row's step.
+fn put_file_number(to: &mut Page, row: &Row, first: u64) {
+    if let Some(line) = row.line {
+        put_number(to, FILES_AT, first, line);
+    }
+}
+
+/// Puts the numbers of a line, its step and its answer.
 fn put_told(to: &mut Page, row: &Row, class: &str, first: u64) {
     put_row(to, row.number);
-    put_attribute(to, b"<text class=\"number\" x=\"", NUMBERS_AT);
-    put_attribute(to, b" y=\"", first);
-    to.put(b">");
-    to.count(row.number);
-    to.put(b"</text>\n");
+    put_number(to, NUMBERS_AT, first, row.number as u64);
+    put_file_number(to, row, first);
     put_text(to, "step", STEPS_AT, first, row.step.as_str());
     let second = first.saturating_add(SLOT);
     put_text(to, class, STEPS_AT, second, row.told.as_str());
@@ -101,6 +127,7 @@ fn put_margin(to: &mut Page, plan: &Plan, row: &Row) {
             to.put(b"</g>\n")
         }
         RowKind::Away => {
+            put_file_number(to, row, first);
             put_text(to, "away", STEPS_AT, first, row.step.as_str());
             let second = first.saturating_add(SLOT);
             put_text(to, "away", STEPS_AT, second, row.told.as_str())
@@ -110,9 +137,9 @@ fn put_margin(to: &mut Page, plan: &Plan, row: &Row) {
     }
 }
 
-/// Puts the dot of the thread that enters.
+/// Puts the dot of the thread that enters, where it has a lane.
 fn put_dot(to: &mut Page, plan: &Plan, row: &Row) {
-    let Some(thread) = row.thread else {
+    let Some(lane) = row.thread.and_then(|thread| plan.lane_of(thread)) else {
         return;
     };
     let class = if row.kind == RowKind::Away {
@@ -122,8 +149,8 @@ fn put_dot(to: &mut Page, plan: &Plan, row: &Row) {
     };
     to.put(b"<circle class=\"");
     to.put(class.as_bytes());
-    put_attribute(to, b"\" cx=\"", lane_at(plan, lane_of(thread)));
-    put_attribute(to, b" cy=\"", event_of(row));
+    put_attribute(to, b"\" cx=\"", lane_at(plan, lane));
+    put_attribute(to, b" cy=\"", row.event());
     to.put(b" r=\"3.5\"/>\n");
 }
 
@@ -163,7 +190,7 @@ fn put_way(to: &mut Page, plan: &Plan, stroke: &Stroke, a: u64, b: u64) {
     let x = aside(a, is_right, EDGE);
     match plan.rows.get(stroke.from_row) {
         Some(row) if stroke.from_row != stroke.row => {
-            put_point(to, b"M", x, event_of(row));
+            put_point(to, b"M", x, row.event());
             put_far(to, b"H", aside(a, is_right, BESIDE));
             put_far(to, b"V", top);
         }
@@ -174,9 +201,9 @@ fn put_way(to: &mut Page, plan: &Plan, stroke: &Stroke, a: u64, b: u64) {
 
 /// Puts the line of an arrow.
 fn put_path(to: &mut Page, plan: &Plan, stroke: &Stroke) {
-    let (from, end) = (stroke.arrow.from.thread, stroke.arrow.to.thread);
-    let (a, b) = (lane_at(plan, lane_of(from)), lane_at(plan, lane_of(end)));
-    if from.is_same(end) {
+    let (from, end) = (stroke.ends.from, stroke.ends.to);
+    let (a, b) = (lane_at(plan, from), lane_at(plan, end));
+    if from == end {
         return put_turn(to, a, slot_top(plan, stroke.row, stroke.slot));
     }
     put_way(to, plan, stroke, a, b);
@@ -188,7 +215,7 @@ fn put_hint<N: Names>(to: &mut Page, names: &N, stroke: &Stroke) {
     to.put(b" to ");
     put_full_name(to, names, stroke.arrow.to.thread);
     to.put(b": ");
-    to.put(stroke.label.as_bytes());
+    to.put(stroke.full.as_bytes());
 }
 
 /// Returns the class of an arrow.
@@ -200,7 +227,7 @@ fn class_of(shown: Shown) -> &'static str {
     }
 }
 
-/// Puts an arrow, over which a pointer shows its label.
+/// Puts an arrow, over which a pointer shows all that it says.
 fn put_stroke<N: Names>(words: &mut Words, to: &mut Page, names: &N, plan: &Plan, stroke: &Stroke) {
     to.put(b"<path class=\"arrow ");
     to.put(class_of(stroke.arrow.shown).as_bytes());
@@ -221,7 +248,7 @@ fn put_label(to: &mut Page, plan: &Plan, stroke: &Stroke) {
     if !stroke.is_straight() {
         return;
     }
-    let gap = gap_of(&stroke.arrow);
+    let gap = stroke.gap();
     let left = lane_at(plan, gap);
     let right = match plan.lanes.get(gap.saturating_add(1)) {
         Some(x) => *x,
@@ -232,18 +259,28 @@ fn put_label(to: &mut Page, plan: &Plan, stroke: &Stroke) {
     put_text(to, "label", x, y, stroke.label.as_str());
 }
 
-/// Puts what was sent to nobody, in grey.
-fn put_lost(to: &mut Page, plan: &Plan, note: &Note) {
+/// Puts the short line of a note, of this line of the book.
+fn put_short(to: &mut Page, kind: NoteKind, number: Option<usize>, x: u64, y: u64) {
+    match kind {
+        NoteKind::Lost => put_lost_line(to, number, x, y),
+        NoteKind::Comes(shown) => put_short_line(to, class_of(shown), number, x, y, Way::Back),
+        NoteKind::Goes(shown) => put_short_line(to, class_of(shown), number, x, y, Way::Off),
+        NoteKind::Label | NoteKind::State | NoteKind::Mark => {}
+    }
+}
+
+/// Puts a text beside a lane that has a short line before it.
+fn put_with_line(to: &mut Page, plan: &Plan, note: &Note, class: &str) {
     let x = lane_at(plan, note.lane);
     let top = slot_top(plan, note.row, note.slot);
     let number = plan.rows.get(note.row).map(|row| row.number);
-    let (end, line) = (x.saturating_add(EDGE), top.saturating_add(LOST_AT));
-    put_lost_line(to, number, end, line);
+    let (end, line) = (x.saturating_add(EDGE), top.saturating_add(SHORT_AT));
+    put_short(to, note.kind, number, end, line);
     let (x, y) = (
         x.saturating_add(CLEAR + LOST_TEXT),
         top.saturating_add(TEXT_AT),
     );
-    put_text(to, "lost", x, y, note.text.as_str());
+    put_text(to, class, x, y, note.text.as_str());
 }
 
 /// Puts what is written beside a lane.
@@ -251,7 +288,8 @@ fn put_note(to: &mut Page, plan: &Plan, note: &Note) {
     let y = slot_top(plan, note.row, note.slot).saturating_add(TEXT_AT);
     let x = lane_at(plan, note.lane).saturating_add(CLEAR);
     match note.kind {
-        NoteKind::Lost => put_lost(to, plan, note),
+        NoteKind::Lost => put_with_line(to, plan, note, "lost"),
+        NoteKind::Comes(_) | NoteKind::Goes(_) => put_with_line(to, plan, note, "note"),
         NoteKind::Mark => put_text(to, "mark", x, y, note.text.as_str()),
         NoteKind::Label | NoteKind::State => put_text(to, "note", x, y, note.text.as_str()),
     }
@@ -268,12 +306,12 @@ fn put_arrows<N: Names>(words: &mut Words, to: &mut Page, names: &N, plan: &Plan
 }
 
 /// Puts everything of the page that is beside its lanes, but what is below them.
-fn put_all<N: Names>(words: &mut Words, to: &mut Page, names: &N, drawing: &Drawing, plan: &Plan) {
+fn put_all<N: Names>(words: &mut Words, to: &mut Page, scene: &Scene<'_, N>, plan: &Plan) {
     for row in plan.rows.iter() {
         put_margin(to, plan, row);
     }
-    put_bars(words, to, names, drawing, plan);
-    put_arrows(words, to, names, plan);
+    put_bars(words, to, scene, plan);
+    put_arrows(words, to, scene.names, plan);
     for stroke in plan.strokes.iter() {
         put_label(to, plan, stroke);
     }
@@ -324,16 +362,21 @@ fn counts_of(plan: &Plan) -> Counts {
     for stroke in plan.strokes.iter() {
         counts.count(stroke.arrow.shown);
     }
+    for note in plan.notes.iter() {
+        if let NoteKind::Comes(shown) | NoteKind::Goes(shown) = note.kind {
+            counts.count(shown);
+        }
+    }
     counts
 }
 
 /// Puts what is read aloud of the picture: its title, and how much it shows.
-fn put_title(to: &mut Page, drawing: &Drawing, plan: &Plan, title: &str) {
+fn put_title(to: &mut Page, plan: &Plan, title: &str) {
     to.put(b"<title>");
     put_escaped(to, title);
     to.put(b"</title>\n<desc>");
     let counts = counts_of(plan);
-    to.counted(drawing.threads(), "thread");
+    to.counted(plan.threads.len(), "thread");
     to.put(b", ");
     to.counted(lines_in(plan), "line");
     to.put(b", ");
@@ -356,35 +399,25 @@ fn put_size(to: &mut Page, width: u64, height: u64) {
 }
 
 /// Puts the lanes and what is below them, and gives the height of the page.
-fn put_body<N: Names>(
-    words: &mut Words,
-    to: &mut Page,
-    names: &N,
-    drawing: &Drawing,
-    plan: &Plan,
-    window: Window,
-) -> u64 {
-    put_all(words, to, names, drawing, plan);
-    let below = put_end(words, to, names, drawing, plan, window);
-    put_legend(words, to, names, drawing, plan, below).saturating_add(20)
+fn put_body<N: Names>(words: &mut Words, to: &mut Page, scene: &Scene<'_, N>, plan: &Plan) -> u64 {
+    put_all(words, to, scene, plan);
+    let below = put_end(words, to, scene, plan);
+    put_legend(words, to, scene, plan, below).saturating_add(20)
 }
 
-/// Returns the picture of a window of a drawing, as SVG with this title.
+/// Returns the picture of a scene, as SVG with this title.
 pub fn svg_of<N: Names>(
     alloc: Global,
-    drawing: &Drawing,
-    names: &N,
-    window: Window,
+    scene: &Scene<'_, N>,
     title: &str,
 ) -> Result<String, AllocError> {
-    let window = drawing.shown(window);
-    let plan = plan_of(alloc, drawing, names, window)?;
+    let plan = plan_of(alloc, scene)?;
     let mut words = Words::new(alloc)?;
     let mut page = Page::new(alloc)?;
-    let height = put_body(&mut words, &mut page, names, drawing, &plan, window);
+    let height = put_body(&mut words, &mut page, scene, &plan);
     let body = take_text(alloc, &mut page)?;
     put_size(&mut page, plan.width.max(560), height);
-    put_title(&mut page, drawing, &plan, title);
+    put_title(&mut page, &plan, title);
     page.put(STYLE.as_bytes());
     page.put(b"<rect class=\"ground\" width=\"100%\" height=\"100%\"/>\n");
     page.put(body.as_bytes());

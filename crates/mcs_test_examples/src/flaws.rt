@@ -3,7 +3,7 @@
 use crate::forms::is_sequence;
 use crate::places::is_clear;
 use mcs_lab_check::{LabFault, check};
-use mcs_lab_render::{Format, Window, draw_script};
+use mcs_lab_render::{Asked, Format, draw_script};
 use mcs_sim::Source;
 use std::alloc::Global;
 use std::io::Write;
@@ -36,8 +36,8 @@ fn tell_pages<W: Write>(alloc: Global, to: &mut W) -> Result<(), LabFault> {
 const LINES: &[&str] = &[
     "    participant t1 as client (t1)",
     "    participant t1",
-    "    t1->>t2: m0 fs call badge 7: 10",
-    "    t1-->>t2: fs.reply answers: 0 #59; 5",
+    "    t1->>t2: m0 call fs 10(4096) badge 7",
+    "    t1-->>t2: fs.reply answers 0(#59; 5)",
     "    t1-)t2: irq heard: 3",
     "    t1=>t2: irq heard: 3",
     "    t1->>t2: one; two",
@@ -77,14 +77,8 @@ fn tell_fault<W: Write>(to: &mut W, verb: &str, fault: Option<LabFault>) -> Resu
 fn tell_names<W: Write>(alloc: Global, to: &mut W) -> Result<(), LabFault> {
     for &script in NAMES {
         let mut source = Source::new(script.as_bytes());
-        let window = Window { first: 1, last: 1 };
-        let drawn = draw_script(
-            alloc,
-            &mut source,
-            &mut Vec::new(alloc),
-            Format::Svg,
-            window,
-        );
+        let asked = Asked::whole(Format::Svg);
+        let drawn = draw_script(alloc, &mut source, &mut Vec::new(alloc), &asked);
         tell_fault(to, "drawn", drawn.err())?;
         let mut source = Source::new(script.as_bytes());
         let checked = check(alloc, &mut source, Vec::new(alloc));

@@ -1,7 +1,11 @@
 //! The pictures of the gallery.
 use crate::draw_file;
+use crate::looks::look_at_lanes;
 use mcs_lab_check::LabFault;
 use mcs_lab_render::Format;
+use mcs_types::{Kind, ObjId};
+use std::alloc::{AllocError, Global};
+use std::fs;
 use std::io::Write;
 
 /// The scripts, and for each what is made of it.
@@ -70,6 +74,39 @@ const PICTURES: &[(&str, &str, Format)] = &[
 pub fn draw_gallery<W: Write>(rt: &HostRuntime, to: &mut W) -> Result<(), LabFault> {
     for &(script, picture, format) in PICTURES {
         draw_file(rt, to, script, picture, format)?;
+    }
+    Ok(())
+}
+
+/// Scripts, and the serials of the threads whose lanes are drawn, in their order.
+const LANES: &[(&str, &[u32])] = &[
+    ("gallery/passive-server.mcs", &[3, 1]),
+    ("gallery/nested-calls.mcs", &[2]),
+    ("gallery/server-dies.mcs", &[2, 1]),
+    ("signals.mcs", &[3]),
+];
+
+/// Returns the threads of these serials.
+fn threads_of(alloc: Global, serials: &[u32]) -> Result<Vec<ObjId>, AllocError> {
+    let mut threads = Vec::new(alloc);
+    for serial in serials {
+        threads.push(ObjId {
+            kind: Kind::Thread,
+            serial: *serial,
+        })?;
+    }
+    Ok(threads)
+}
+
+/// Draws each of these scripts with some lanes alone, and writes what is found of the picture.
+pub fn draw_lanes<W: Write>(rt: &HostRuntime, to: &mut W) -> Result<(), LabFault> {
+    for &(script, serials) in LANES {
+        let Ok(file) = fs::open(rt, script) else {
+            return Err(LabFault::Read);
+        };
+        let threads = threads_of(rt.alloc(), serials)?;
+        let told = look_at_lanes(rt.alloc(), file, &threads);
+        writeln!(to, "# some lanes of {script}: {told}")?;
     }
     Ok(())
 }

@@ -26,7 +26,7 @@ mod stuck;
 mod walks;
 
 use flaws::tell_flaws;
-use gallery::draw_gallery;
+use gallery::{draw_gallery, draw_lanes};
 use given::tell_given;
 use looks::look_at;
 use mcs_lab_check::{LabFault, check};
@@ -115,6 +115,7 @@ fn tell_all(rt: &HostRuntime, paths: &[String]) -> Result<bool, LabFault> {
     let all_hold = check_all(rt, &mut to, paths)?;
     let reports_hold = check_reports(rt, &mut to)?;
     draw_gallery(rt, &mut to)?;
+    draw_lanes(rt, &mut to)?;
     tell_flaws(rt.alloc(), &mut to)?;
     explore_all(rt, &mut to)?;
     tell_plans(rt, &mut to)?;

@@ -27,7 +27,7 @@ pub enum Command<'a> {
     /// Writes the lines of the book as JSON.
     Json,
     /// Draws the run.
-    Draw(Drawn),
+    Draw(Drawn<'a>),
     /// Goes through all orders of the users.
     Explore(Sought<'a>),
     /// Takes orders of the users by chance.

@@ -2,19 +2,40 @@
 use crate::command_line::{line, with};
 use crate::numbering::number_in;
 use clap::{Arg, ArgMatches, Command as Words, Error};
-use mcs_lab_check::{Judge, LabFault, Last, Outcome, TakesLines, Told, take_lines};
-use mcs_lab_render::{Format, Window, draw_script};
+use mcs_lab_check::{Judge, LabFault, Last, Names, Outcome, TakesLines, Told, take_lines};
+use mcs_lab_render::{Asked, Format, NoThreads, Window, draw_script, threads_named};
+use mcs_plan_source::Shown;
 use mcs_sim::Source;
 use std::alloc::Global;
 use std::io::{Read, Write};
 
 /// What is drawn, and as what: the steps from a line of the file to another, or from its first or
-/// to its last.
+/// to its last, with the lanes of these threads, names or ids with commas between.
 #[derive(Clone, Copy)]
-pub struct Drawn {
+pub struct Drawn<'a> {
     pub format: Format,
     pub from: Option<u64>,
     pub to: Option<u64>,
+    pub threads: Option<&'a str>,
+}
+
+/// What the file says of a script that came of it: for each line of the script the line of the file
+/// of which it came, and for each step how the file tells it. Both are empty where the script is
+/// the file.
+#[derive(Clone, Copy)]
+pub struct Said<'a> {
+    pub numbers: &'a [u64],
+    pub texts: &'a [String],
+}
+
+impl Said<'_> {
+    /// Says nothing beyond the script.
+    pub fn nothing<'a>() -> Said<'a> {
+        Said {
+            numbers: &[],
+            texts: &[],
+        }
+    }
 }
 
 /// The names of the formats; for any other the command line is refused.
@@ -47,6 +68,16 @@ fn format<'a>(alloc: Global) -> Arg<'a> {
         .value_parser(FORMATS)
 }
 
+/// The option for the threads.
+fn threads<'a>(alloc: Global) -> Arg<'a> {
+    Arg::new(alloc, "threads")
+        .long("threads")
+        .value_name("NAMES")
+        .help(
+            "The lanes of these threads alone, by names or ids with commas between [default: all but `starter`]",
+        )
+}
+
 /// The command with no option.
 fn words<'a>(alloc: Global) -> Words<'a> {
     Words::new(alloc, "draw").about(
@@ -58,12 +89,13 @@ fn words<'a>(alloc: Global) -> Words<'a> {
 pub fn command<'a>(alloc: Global, file: Arg<'a>) -> Result<Words<'a>, Error> {
     let words = with(Ok(words(alloc)), from(alloc));
     let words = with(words, to(alloc));
+    let words = with(words, threads(alloc));
     let words = with(words, format(alloc));
     with(words, file)
 }
 
 /// What is asked; None for a format that is not there.
-pub fn asked(found: &ArgMatches<'_>) -> Option<Drawn> {
+pub fn asked<'a>(found: &ArgMatches<'a>) -> Option<Drawn<'a>> {
     let format = match found.get_str("format") {
         None | Some("svg") => Format::Svg,
         Some("mermaid") => Format::Mermaid,
@@ -74,13 +106,15 @@ pub fn asked(found: &ArgMatches<'_>) -> Option<Drawn> {
         format,
         from: found.get_one("from"),
         to: found.get_one("to"),
+        threads: found.get_str("threads"),
     })
 }
 
-/// A script that is read whole: its text, and the line of each step that is in its book.
+/// A script that is read whole: its text, its names, and the line of each step that is in its book.
 #[derive(Drop)]
 struct Steps {
     judge: Judge,
+    names: Names,
     text: Vec<u8>,
     lines: Vec<u64>,
 }
@@ -93,6 +127,7 @@ impl TakesLines for Steps {
                 self.lines.push(self.judge.line())?;
                 Ok(())
             }
+            (Told::Nothing, _) => self.names.hear(alloc, self.judge.line(), line),
             _ => Ok(()),
         }
     }
@@ -106,10 +141,12 @@ impl Steps {
     /// Returns what a script says. Its faults are those of its lines, of a read, of a full book and
     /// of memory that is refused.
     fn read<R: Read>(alloc: Global, from: &mut Source<R>) -> Result<Steps, LabFault> {
-        let text = Vec::new(alloc);
-        let lines = Vec::new(alloc);
-        let judge = Judge::new(alloc)?;
-        let mut steps = Steps { judge, text, lines };
+        let mut steps = Steps {
+            judge: Judge::new(alloc)?,
+            names: Names::new(alloc),
+            text: Vec::new(alloc),
+            lines: Vec::new(alloc),
+        };
         take_lines(alloc, from, &mut steps)?;
         steps.judge.end(alloc)?;
         Ok(steps)
@@ -133,8 +170,12 @@ impl Steps {
             .count()
     }
 
-    /// Returns the lines of the book whose steps stand in these lines; None where none does.
-    fn window(&self, numbers: &[u64], drawn: Drawn) -> Option<Window> {
+    /// Returns the lines of the book whose steps stand in the lines that are asked for; None where
+    /// none does.
+    fn window(&self, numbers: &[u64], drawn: Drawn<'_>) -> Option<Window> {
+        if drawn.from.is_none() && drawn.to.is_none() {
+            return Some(ALL);
+        }
         let before = match drawn.from {
             Some(line) => self.count_before(numbers, line),
             None => 0,
@@ -151,51 +192,96 @@ impl Steps {
     }
 }
 
-/// Draws a part of a script whose lines have these numbers, and returns the exit status. Fault
-/// NoLine where a line that is named is beyond the end of the script, unless its numbers are those
-/// of another text.
-fn draw_part<R: Read, W: Write>(
-    rt: &HostRuntime,
-    from: &mut Source<R>,
-    to: &mut W,
-    drawn: Drawn,
-    numbers: &[u64],
-) -> Result<u8, LabFault> {
-    let alloc = rt.alloc();
-    let steps = Steps::read(alloc, from)?;
-    if numbers.is_empty()
-        && let Some(fault) = steps.missing(drawn.from).or(steps.missing(drawn.to))
-    {
-        return Err(fault);
-    }
-    let Some(window) = steps.window(numbers, drawn) else {
-        let _ = rt.eprintln("mcslab: no step in these lines took effect");
-        return Ok(Outcome::Call.status());
-    };
-    let mut source = Source::new(steps.text.as_slice());
-    draw_script(alloc, &mut source, to, drawn.format, window)?;
-    Ok(Outcome::Done.status())
-}
-
 /// The window of all lines.
 const ALL: Window = Window {
     first: 1,
     last: usize::MAX,
 };
 
-/// Draws a script whose lines have these numbers, or their own where there are none, and returns
-/// the exit status. Its faults are those of `draw_script`, and NoLine where a line that is named is
-/// beyond the end.
+/// Reports that a list of threads is none, and returns the exit status.
+fn tell_no_threads(rt: &HostRuntime, fault: NoThreads<'_>) -> Result<u8, LabFault> {
+    match fault {
+        NoThreads::OutOfMemory => Err(LabFault::OutOfMemory),
+        NoThreads::Word { word, there } => {
+            let word = Shown { text: word };
+            let _ = eprintln!(rt;
+                "mcslab: --threads: there is no thread {word}; there are {there}"
+            );
+            Ok(Outcome::Call.status())
+        }
+    }
+}
+
+/// Draws a window of a script with the lanes that are asked for, and returns the exit status.
+fn draw_window<W: Write>(
+    rt: &HostRuntime,
+    steps: &Steps,
+    to: &mut W,
+    drawn: Drawn<'_>,
+    window: Window,
+    said: Said<'_>,
+) -> Result<u8, LabFault> {
+    let alloc = rt.alloc();
+    let found = match drawn.threads {
+        Some(words) => threads_named(alloc, &steps.judge, &steps.names, words),
+        None => Ok(Vec::new(alloc)),
+    };
+    let threads = match found {
+        Ok(threads) => threads,
+        Err(fault) => return tell_no_threads(rt, fault),
+    };
+    let asked = Asked {
+        format: drawn.format,
+        window,
+        threads: &threads,
+        texts: said.texts,
+        numbers: said.numbers,
+    };
+    draw_script(alloc, &mut Source::new(steps.text.as_slice()), to, &asked)?;
+    Ok(Outcome::Done.status())
+}
+
+/// Draws a part of a script, and returns the exit status. Fault NoLine where a line that is named
+/// is beyond the end of the script, unless its numbers are those of another text.
+fn draw_part<R: Read, W: Write>(
+    rt: &HostRuntime,
+    from: &mut Source<R>,
+    to: &mut W,
+    drawn: Drawn<'_>,
+    said: Said<'_>,
+) -> Result<u8, LabFault> {
+    let steps = Steps::read(rt.alloc(), from)?;
+    if said.numbers.is_empty()
+        && let Some(fault) = steps.missing(drawn.from).or(steps.missing(drawn.to))
+    {
+        return Err(fault);
+    }
+    match steps.window(said.numbers, drawn) {
+        Some(window) => draw_window(rt, &steps, to, drawn, window, said),
+        None => {
+            let _ = rt.eprintln("mcslab: no step in these lines took effect");
+            Ok(Outcome::Call.status())
+        }
+    }
+}
+
+/// Draws a script of which its file says this, and returns the exit status. Its faults are those of
+/// `draw_script`, and NoLine where a line that is named is beyond the end.
 pub fn draw<R: Read, W: Write>(
     rt: &HostRuntime,
     from: &mut Source<R>,
     to: &mut W,
-    drawn: Drawn,
-    numbers: &[u64],
+    drawn: Drawn<'_>,
+    said: Said<'_>,
 ) -> Result<u8, LabFault> {
-    if drawn.from.is_some() || drawn.to.is_some() {
-        return draw_part(rt, from, to, drawn, numbers);
+    if drawn.from.is_some() || drawn.to.is_some() || drawn.threads.is_some() {
+        return draw_part(rt, from, to, drawn, said);
     }
-    draw_script(rt.alloc(), from, to, drawn.format, ALL)?;
+    let asked = Asked {
+        texts: said.texts,
+        numbers: said.numbers,
+        ..Asked::whole(drawn.format)
+    };
+    draw_script(rt.alloc(), from, to, &asked)?;
     Ok(Outcome::Done.status())
 }

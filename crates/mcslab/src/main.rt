@@ -36,7 +36,7 @@ use clap::Error;
 use clap::error::ErrorKind;
 use command_line::{Command, Request, requested};
 use completing::write_completions;
-use drawing::{Drawn, draw};
+use drawing::{Drawn, Said, draw};
 use exploring::{Sought, explore};
 use folder::make_folder;
 use input::{Kept, open, tell_unopened};
@@ -106,7 +106,7 @@ fn do_request<R: Read + Drop, W: Write + Drop>(
         Command::Why => explain(alloc, source, to)?,
         Command::State(wanted) => show_state(alloc, source, to, wanted)?,
         Command::Json => write_json(alloc, source, to)?,
-        Command::Draw(drawn) => return Ok(draw(rt, source, to, drawn, &[])?),
+        Command::Draw(drawn) => return Ok(draw(rt, source, to, drawn, Said::nothing())?),
         Command::Explore(sought) => return explore(rt, source, to, sought),
         Command::Walk(chance) => return walk(alloc, source, to, chance),
         // these read no script of steps
@@ -157,7 +157,7 @@ fn do_file(rt: &HostRuntime, request: &Request<'_>) -> ExitCode {
 }
 
 /// Returns whether a picture shows no line, since its first is behind its last, which is told.
-fn tells_no_line(rt: &HostRuntime, drawn: Drawn) -> bool {
+fn tells_no_line(rt: &HostRuntime, drawn: Drawn<'_>) -> bool {
     match (drawn.from, drawn.to) {
         (Some(from), Some(to)) if from > to => {
             let _ = eprintln!(rt; "mcslab: --from {from} is behind --to {to}");

@@ -2,11 +2,12 @@
 //! is told has the plan's lines and names.
 use crate::advice::told_of;
 use crate::command_line::{Command, Request};
-use crate::drawing::{Drawn, draw};
+use crate::drawing::{Drawn, Said, draw};
 use crate::exploring::{Sought, explore};
 use crate::input::plan_bytes;
 use crate::numbering::{Form, last_line, number_in};
 use crate::retelling::Retold;
+use crate::speaking::step_texts;
 use crate::status_if;
 use crate::telling::{
     Place, Stranger, line_of, line_of_plan, reads_users, tell_fault, tell_plan_fault, tell_stranger,
@@ -230,8 +231,18 @@ impl Planned<'_> {
     }
 
     /// Draws the script.
-    fn draw<W: Write>(&self, rt: &HostRuntime, to: &mut W, drawn: Drawn) -> Result<u8, LabFault> {
-        draw(rt, &mut self.source(), to, drawn, &self.script.numbers)
+    fn draw<W: Write>(
+        &self,
+        rt: &HostRuntime,
+        to: &mut W,
+        drawn: Drawn<'_>,
+    ) -> Result<u8, LabFault> {
+        let texts = step_texts(rt.alloc(), &self.made, &self.script.text)?;
+        let said = Said {
+            numbers: &self.script.numbers,
+            texts: &texts,
+        };
+        draw(rt, &mut self.source(), to, drawn, said)
     }
 
     /// Does what a command asks with steps, and returns the exit status.

@@ -5,6 +5,7 @@ use mcs_lab_forms::{Fields, LooksUp, form_of, number_of};
 use mcs_plan_compile::Script;
 use mcs_text::Words;
 use std::alloc::{AllocError, Global};
+use std::str;
 
 /// From which number on numbers are told in hexadecimal.
 const LARGE: u64 = 1 << 32;
@@ -176,6 +177,32 @@ pub fn add_step(
     };
     add_head(to, script, core, thread)?;
     Speaker { script, place }.add_entry(alloc, to, entry)
+}
+
+/// Returns a step of a script by the plan's names; an empty text for a line that is no step.
+fn step_text(alloc: Global, script: &Script, line: &[u8]) -> Result<String, AllocError> {
+    let mut text = Vec::new(alloc);
+    if matches!(line, [b'0'..=b'9', ..]) {
+        add_step(alloc, &mut text, script, line)?;
+    }
+    let mut told = String::new(alloc);
+    if let Ok(said) = str::from_utf8(&text) {
+        told.push_str(said)?;
+    }
+    Ok(told)
+}
+
+/// Returns of each line of a script how the plan tells its step; an empty text where it is none.
+pub fn step_texts(
+    alloc: Global,
+    script: &Script,
+    text: &[u8],
+) -> Result<Vec<String>, AllocError> {
+    let mut texts = Vec::new(alloc);
+    for line in text.split(|byte| *byte == b'\n') {
+        texts.push(step_text(alloc, script, line)?)?;
+    }
+    Ok(texts)
 }
 
 /// What a word of a report tells: an object by its name, and the end of the word, as `.recv`.

@@ -1,0 +1,38 @@
+//! Numbers as a picture has them: from 2^32 on in hexadecimal.
+use mcs_lab_inspect::Page;
+use std::alloc::Global;
+
+/// From which number on numbers are hexadecimal.
+const LARGE: u64 = 4_294_967_296;
+
+/// Returns whether a number is hexadecimal.
+pub fn is_large(number: u64) -> bool {
+    number >= LARGE
+}
+
+/// Puts a number.
+pub fn put_number(alloc: Global, to: &mut Page, number: u64) {
+    if is_large(number) {
+        to.made(format!(in alloc; "0x{number:x}"));
+    } else {
+        to.number(number);
+    }
+}
+
+/// Puts a word, which may be a number.
+fn put_word(alloc: Global, to: &mut Page, word: &str) {
+    match word.parse::<u64>() {
+        Ok(number) if is_large(number) => put_number(alloc, to, number),
+        _ => to.put(word.as_bytes()),
+    }
+}
+
+/// Puts words with a blank between two, the numbers among them as a picture has them.
+pub fn put_words(alloc: Global, to: &mut Page, text: &str) {
+    for (before, word) in text.split(' ').enumerate() {
+        if before > 0 {
+            to.put(b" ");
+        }
+        put_word(alloc, to, word);
+    }
+}

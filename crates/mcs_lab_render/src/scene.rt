@@ -1,0 +1,100 @@
+//! What is drawn, and which part of it is shown.
+use crate::naming::Names;
+use crate::steps::Steps;
+use mcs_lab_diagram::{Drawing, Window};
+use mcs_plan_source::STARTER;
+use mcs_types::{Kind, ObjId, Status};
+use std::alloc::{AllocError, Global};
+
+/// A run that is drawn: its names, where its steps stand, the threads with lanes in their order,
+/// and the lines of its book that are shown, which are there.
+#[derive(Drop)]
+pub struct Scene<'a, N> {
+    pub drawing: &'a Drawing,
+    pub names: &'a N,
+    pub steps: &'a Steps,
+    pub threads: &'a [ObjId],
+    pub window: Window,
+}
+
+/// The place of a thread among all threads, from 0.
+pub fn place_of(thread: ObjId) -> usize {
+    thread.serial.saturating_sub(1) as usize
+}
+
+/// Returns the lane of a thread among these, if it has one.
+pub fn lane_in(threads: &[ObjId], thread: ObjId) -> Option<usize> {
+    for (lane, other) in threads.iter().enumerate() {
+        if other.is_same(thread) {
+            return Some(lane);
+        }
+    }
+    None
+}
+
+/// Returns whether a thread has done all that it is there for, behind a line: it has the name of
+/// the thread by which plans start others, and is inactive.
+fn is_done<N: Names>(drawing: &Drawing, names: &N, thread: ObjId, line: usize) -> bool {
+    let Some(name) = names.name(thread) else {
+        return false;
+    };
+    let look = drawing.look(line, place_of(thread));
+    name == STARTER && look.status == Some(Status::Inactive)
+}
+
+/// Returns the threads that have lanes where none is asked for: all that have not done behind this
+/// line what they are there for.
+fn busy_threads<N: Names>(
+    alloc: Global,
+    drawing: &Drawing,
+    names: &N,
+    last: usize,
+) -> Result<Vec<ObjId>, AllocError> {
+    let mut threads = Vec::new(alloc);
+    for place in 0..drawing.threads() {
+        let thread = drawing.thread(place);
+        if !is_done(drawing, names, thread, last) {
+            threads.push(thread)?;
+        }
+    }
+    Ok(threads)
+}
+
+/// Returns whether a drawing has a thread.
+fn is_there(drawing: &Drawing, thread: ObjId) -> bool {
+    match thread.place(Kind::Thread) {
+        Some(place) => place < drawing.threads(),
+        None => false,
+    }
+}
+
+/// Returns these threads, each once, as far as they are there.
+fn asked_threads(
+    alloc: Global,
+    drawing: &Drawing,
+    wanted: &[ObjId],
+) -> Result<Vec<ObjId>, AllocError> {
+    let mut threads = Vec::new(alloc);
+    for thread in wanted {
+        if is_there(drawing, *thread) && lane_in(&threads, *thread).is_none() {
+            threads.push(*thread)?;
+        }
+    }
+    Ok(threads)
+}
+
+/// Returns the threads that have lanes, in their order: those that are wanted. Where none is, all
+/// have one, but for the thread by which plans start others where it is inactive behind the last
+/// line that is shown.
+pub fn threads_shown<N: Names>(
+    alloc: Global,
+    drawing: &Drawing,
+    names: &N,
+    wanted: &[ObjId],
+    last: usize,
+) -> Result<Vec<ObjId>, AllocError> {
+    if wanted.is_empty() {
+        return busy_threads(alloc, drawing, names, last);
+    }
+    asked_threads(alloc, drawing, wanted)
+}

@@ -1,0 +1,49 @@
+//! Where the steps of a drawing stand, and how they are told.
+use std::alloc::{AllocError, Global};
+
+/// The origin of a step: the line of the file that was given, and the text by which that tells it;
+/// an empty one where it is told as a script spells it.
+#[derive(Drop)]
+pub struct Origin {
+    pub line: u64,
+    pub text: String,
+}
+
+/// The origins of the steps of a drawing, in their order: of those in its book, and of those that
+/// were skipped.
+#[derive(Drop)]
+pub struct Steps {
+    entered: Vec<Origin>,
+    skipped: Vec<Origin>,
+}
+
+impl Steps {
+    /// Returns no steps.
+    pub fn new(alloc: Global) -> Steps {
+        Steps {
+            entered: Vec::new(alloc),
+            skipped: Vec::new(alloc),
+        }
+    }
+
+    /// Adds a step behind which the book has so many lines, without that of the boot: more than
+    /// steps before where it was let in. AllocError where memory was refused.
+    pub fn add(&mut self, origin: Origin, lines: usize) -> Result<(), AllocError> {
+        if lines > self.entered.len() {
+            self.entered.push(origin)?;
+        } else {
+            self.skipped.push(origin)?;
+        }
+        Ok(())
+    }
+
+    /// Returns the origin of a line of the book, by its number from 1.
+    pub fn of_line(&self, number: usize) -> Option<&Origin> {
+        self.entered.get(number.checked_sub(1)?)
+    }
+
+    /// Returns the origin of a step that was skipped, by its place among them from 0.
+    pub fn of_skipped(&self, place: usize) -> Option<&Origin> {
+        self.skipped.get(place)
+    }
+}
