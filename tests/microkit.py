@@ -107,14 +107,31 @@ def check_cases(mcslab, writes):
     return faults, len(texts)
 
 
+# Questions of a plan, in Microkit's words and in those of programs, and the script's lines.
+ASKED = {
+    "#! never a in init and s in protected 1": "#! never a in init and s in protected.1",
+    "  #!  some s\tinput2 waits": "#! some s input2 waits",
+    "#! never s in notified 62 and a in 0..=1": "#! never s in notified.62 and a in 0..=1",
+    "#! never a in protected and s in protected.1": "#! never a in protected and s in protected.1",
+}
+
+
+def check_questions(mcslab):
+    """The questions of a plan with domains, as its script has them."""
+    plan = "pd a prio 1 { }\npd s prio 2 {\n  protected 1 { }\n}\nchannel a.1 s.1 pp\n" + "\n".join(ASKED) + "\n"
+    ran = subprocess.run([mcslab, "compile"], input=plan, capture_output=True, text=True)
+    lines = ran.stdout.splitlines()[-len(ASKED) :]
+    return [] if lines == list(ASKED.values()) else ["\n".join(["questions: not as wanted:", *lines, ran.stderr])]
+
+
 def main(words):
     writes, words, count = words[:1] == ["--write"], [word for word in words if word != "--write"], 1
     names = sorted(it[: -len(".system")] for it in os.listdir(CASES) if it.endswith(".system"))
     faults = [line for name in names for line in check_case(name, writes)] + check_merged()
     if words:
         more, cases = check_cases(words[0], writes)
-        faults += check_compiled(words[0]) + more
-        count += cases
+        faults += check_compiled(words[0]) + more + check_questions(words[0])
+        count += cases + 1
     print("\n".join(faults + [f"{len(names) + count} passed, 0 failed" if not faults else f"{len(faults)} failed"]))
     return 1 if faults else 0
 
