@@ -1,182 +1,327 @@
 //! The objects and threads of a system, and what each domain has.
-use crate::badges::{CHANNEL_MAX, called_badge, notified_badge};
+ghost use Rattle.std.specs.Prelude.{◌≡◌, OnOk};
+ghost use Rattle.mcs_plan_domains.specs.Pages.{page_of};
+ghost use Rattle.mcs_plan_domains.specs.Boots.{begun_put, boot_put, call_put, channel_put, channels_put, each_put, end_put, has_put, inputs_put, monitor_if, monitor_put, monitored_put, monitors_put};
+ghost use Rattle.mcs_plan_domains.specs.Boots.{notify_put, object_put, objects_put, own_put, passive_line, passive_put, thread_put, tie_put, tied_put};
+
+use crate::badges::{called_badge, notified_badge};
+use crate::ends::End;
 use crate::lowered::Lowered;
-use crate::system::{Channel, Domain, End, System};
+use crate::system::{Channel, Domain, System};
+use std::alloc::AllocError;
 
 /// How many cores there may be.
 pub const CORES: u64 = 16;
 
+/// Puts an object of a domain.
+fn put_object(
+    out: &mut Lowered,
+    kind: &str,
+    domain: &Domain<'_>,
+    ending: &str,
+) -> Result<(), AllocError>
+    ensures { OnOk result
+        (page_of out.new ≡ object_put (page_of out.old) kind.now domain.now ending.now) }
+{
+    out.put(kind)?;
+    out.put(domain.name)?;
+    out.last(domain.line, ending)
+}
+
 /// Puts the objects of a domain.
-fn put_objects(out: &mut Lowered, domain: &Domain<'_>, is_called: bool) {
-    out.put("notification ");
-    out.put(domain.name);
-    out.line(domain.line, 0, ".ntfn");
-    if is_called {
-        out.put("endpoint ");
-        out.put(domain.name);
-        out.line(domain.line, 0, ".ep");
-        out.put("reply ");
-        out.put(domain.name);
-        out.line(domain.line, 0, ".reply");
+fn put_objects(out: &mut Lowered, domain: &Domain<'_>) -> Result<(), AllocError>
+    ensures { OnOk result (page_of out.new ≡ objects_put (page_of out.old) domain.now) }
+{
+    put_object(out, "notification ", domain, ".ntfn")?;
+    if !domain.is_called {
+        return Ok(());
     }
+    put_object(out, "endpoint ", domain, ".ep")?;
+    put_object(out, "reply ", domain, ".reply")
+}
+
+/// Puts the thread of a domain.
+fn put_thread(out: &mut Lowered, domain: &Domain<'_>) -> Result<(), AllocError>
+    ensures { OnOk result (page_of out.new ≡ thread_put (page_of out.old) domain.now) }
+{
+    out.put("thread ")?;
+    out.put(domain.name)?;
+    out.put(" prio ")?;
+    out.number(domain.priority)?;
+    out.put(" on core ")?;
+    out.number(domain.core)?;
+    out.end(domain.line)
+}
+
+/// Puts that the notification of a domain is bound to its thread.
+fn put_tie(out: &mut Lowered, domain: &Domain<'_>) -> Result<(), AllocError>
+    ensures { OnOk result (page_of out.new ≡ tie_put (page_of out.old) domain.now) }
+{
+    out.put("tie ")?;
+    out.put(domain.name)?;
+    out.put(" ")?;
+    out.put(domain.name)?;
+    out.last(domain.line, ".ntfn")
 }
 
 /// Puts the thread of a domain, to which its notification is bound.
-fn put_thread(out: &mut Lowered, domain: &Domain<'_>) {
-    out.put("thread ");
-    out.put(domain.name);
-    out.put(" prio ");
-    out.number(domain.priority);
-    out.put(" on core ");
-    out.number(domain.core);
-    out.end(domain.line);
-    out.put("tie ");
-    out.put(domain.name);
-    out.put(" ");
-    out.put(domain.name);
-    out.line(domain.line, 0, ".ntfn");
-}
-
-/// Puts the endpoint and the thread by which domains of a core become passive.
-fn put_monitor(out: &mut Lowered, core: u64, line: u64) {
-    out.put("endpoint microkit.ep");
-    out.number(core);
-    out.end(line);
-    out.put("thread microkit.monitor");
-    out.number(core);
-    out.put(" prio 255 on core ");
-    out.number(core);
-    out.end(line);
+fn put_tied(out: &mut Lowered, domain: &Domain<'_>) -> Result<(), AllocError>
+    ensures { OnOk result (page_of out.new ≡ tied_put (page_of out.old) domain.now) }
+{
+    put_thread(out, domain)?;
+    put_tie(out, domain)
 }
 
 /// Puts the beginning of a line of what a domain has: its name, and the name of an object.
-fn put_has(out: &mut Lowered, domain: &Domain<'_>, object: &str, ending: &str) {
-    out.put(domain.name);
-    out.put(" has ");
-    out.put(object);
-    out.put(ending);
+fn put_has(
+    out: &mut Lowered,
+    domain: &Domain<'_>,
+    object: &str,
+    ending: &str,
+) -> Result<(), AllocError>
+    ensures { OnOk result
+        (page_of out.new ≡ has_put (page_of out.old) domain.now object.now ending.now) }
+{
+    out.put(domain.name)?;
+    out.put(" has ")?;
+    out.put(object)?;
+    out.put(ending)
 }
 
 /// Puts with what a domain receives: its endpoint and its reply object, or its notification.
-fn put_inputs(out: &mut Lowered, domain: &Domain<'_>, is_called: bool) {
-    if is_called {
-        put_has(out, domain, domain.name, ".ep:r");
-        out.end(domain.line);
-        put_has(out, domain, domain.name, ".reply");
-        out.end(domain.line);
-    } else {
-        put_has(out, domain, domain.name, ".ntfn:r");
-        out.end(domain.line);
+fn put_inputs(out: &mut Lowered, domain: &Domain<'_>) -> Result<(), AllocError>
+    ensures { OnOk result (page_of out.new ≡ inputs_put (page_of out.old) domain.now) }
+{
+    if !domain.is_called {
+        put_has(out, domain, domain.name, ".ntfn:r")?;
+        return out.end(domain.line);
     }
+    put_has(out, domain, domain.name, ".ep:r")?;
+    out.end(domain.line)?;
+    put_has(out, domain, domain.name, ".reply")?;
+    out.end(domain.line)
 }
 
 /// Puts what a domain has to notify another over a channel.
 fn put_notify(
     out: &mut Lowered,
     domain: &Domain<'_>,
-    own: u64,
+    own: End,
     line: u64,
-    other: &Domain<'_>,
-    end: End,
-) {
-    put_has(out, domain, other.name, ".ntfn:w=");
-    if end.channel <= CHANNEL_MAX {
-        out.hex(notified_badge(end.channel));
-    }
-    out.put(" as notify.");
-    out.number(own);
-    out.end(line);
+    there: &Domain<'_>,
+    other: End,
+) -> Result<(), AllocError>
+    ensures { OnOk result
+        (page_of out.new ≡ notify_put (page_of out.old) domain.now own line there.now other) }
+{
+    put_has(out, domain, there.name, ".ntfn:w=")?;
+    out.hex(notified_badge(other.channel))?;
+    out.put(" as notify.")?;
+    out.number(own.channel)?;
+    out.end(line)
 }
 
 /// Puts what a domain has to call another over a channel.
 fn put_call(
     out: &mut Lowered,
     domain: &Domain<'_>,
-    own: u64,
+    own: End,
     line: u64,
-    other: &Domain<'_>,
-    end: End,
-) {
-    put_has(out, domain, other.name, ".ep:wp=");
-    if end.channel <= CHANNEL_MAX {
-        out.hex(called_badge(end.channel));
-    }
-    out.put(" as ppcall.");
-    out.number(own);
-    out.end(line);
+    there: &Domain<'_>,
+    other: End,
+) -> Result<(), AllocError>
+    ensures { OnOk result
+        (page_of out.new ≡ call_put (page_of out.old) domain.now own line there.now other) }
+{
+    put_has(out, domain, there.name, ".ep:wp=")?;
+    out.hex(called_badge(other.channel))?;
+    out.put(" as ppcall.")?;
+    out.number(own.channel)?;
+    out.end(line)
 }
 
-/// Puts what a domain has at an end of a channel.
-fn put_end(out: &mut Lowered, system: &System<'_>, channel: Channel, own: End, other: End) {
-    let (Some(domain), Some(there)) = (
-        system.domains.get(own.domain),
-        system.domains.get(other.domain),
-    ) else {
-        return;
+/// Puts what a domain has at an end of a channel, over which it may call or not.
+fn put_end(
+    out: &mut Lowered,
+    system: &System<'_>,
+    calls: bool,
+    line: u64,
+    own: End,
+    other: End,
+) -> Result<(), AllocError>
+    ensures { OnOk result
+        (page_of out.new ≡ end_put (page_of out.old) system.now calls line own other) }
+{
+    let Some(domain) = system.domains.get(own.domain) else {
+        return Ok(());
     };
-    put_notify(out, domain, own.channel, channel.line, there, other);
-    if channel.is_called && own == channel.first {
-        put_call(out, domain, own.channel, channel.line, there, other);
+    let Some(there) = system.domains.get(other.domain) else {
+        return Ok(());
+    };
+    put_notify(out, domain, own, line, there, other)?;
+    if !calls {
+        return Ok(());
     }
+    put_call(out, domain, own, line, there, other)
 }
 
-/// Puts how a passive domain tells the monitor that it has begun, and what the monitor takes from
-/// it and gives to its notification. Its badge is its place, from 1 on.
-fn put_passive(out: &mut Lowered, domain: &Domain<'_>, place: usize) {
-    put_has(out, domain, "microkit.ep", "");
-    out.number(domain.core);
-    out.put(":w=");
-    out.number((place as u64).saturating_add(1));
-    out.line(domain.line, 0, " as microkit.monitor");
-    for ending in [".context", ".ntfn"] {
-        out.put("microkit.monitor");
-        out.number(domain.core);
-        out.put(" has ");
-        out.put(domain.name);
-        out.line(domain.line, 0, ending);
+/// Puts what both domains of a channel have: the first may call the second, if the channel has
+/// protected procedures.
+fn put_channel(out: &mut Lowered, system: &System<'_>, channel: &Channel) -> Result<(), AllocError>
+    ensures { OnOk result
+        (page_of out.new ≡ channel_put (page_of out.old) system.now channel.now) }
+{
+    let (line, first, second) = (channel.line, channel.first, channel.second);
+    put_end(out, system, channel.is_called, line, first, second)?;
+    put_end(out, system, false, line, second, first)
+}
+
+/// Puts how a passive domain tells the monitor of its core that it has begun, with its number as
+/// badge.
+fn put_begun(out: &mut Lowered, domain: &Domain<'_>) -> Result<(), AllocError>
+    ensures { OnOk result (page_of out.new ≡ begun_put (page_of out.old) domain.now) }
+{
+    put_has(out, domain, "microkit.ep", "")?;
+    out.number(domain.core)?;
+    out.put(":w=")?;
+    out.number(domain.number)?;
+    out.last(domain.line, " as microkit.monitor")
+}
+
+/// Puts what the monitor of a core has of a passive domain.
+fn put_monitored(out: &mut Lowered, domain: &Domain<'_>, ending: &str) -> Result<(), AllocError>
+    ensures { OnOk result
+        (page_of out.new ≡ monitored_put (page_of out.old) domain.now ending.now) }
+{
+    out.put("microkit.monitor")?;
+    out.number(domain.core)?;
+    out.put(" has ")?;
+    out.put(domain.name)?;
+    out.last(domain.line, ending)
+}
+
+/// Puts how a passive domain tells the monitor, and what the monitor takes from it and gives to its
+/// notification.
+fn put_passive(out: &mut Lowered, domain: &Domain<'_>) -> Result<(), AllocError>
+    ensures { OnOk result (page_of out.new ≡ passive_put (page_of out.old) domain.now) }
+{
+    put_begun(out, domain)?;
+    put_monitored(out, domain, ".context")?;
+    put_monitored(out, domain, ".ntfn")
+}
+
+/// Puts the capabilities of a domain that no channel gives.
+fn put_own(out: &mut Lowered, domain: &Domain<'_>) -> Result<(), AllocError>
+    ensures { OnOk result (page_of out.new ≡ own_put (page_of out.old) domain.now) }
+{
+    put_inputs(out, domain)?;
+    if !domain.is_passive {
+        return Ok(());
     }
+    put_passive(out, domain)
 }
 
 /// Returns the line of the first passive domain of a core, if it has one.
-pub fn passive_line(system: &System<'_>, core: u64) -> Option<u64> {
-    system
-        .domains
-        .iter()
-        .find(|domain| domain.is_passive && domain.core == core)
-        .map(|domain| domain.line)
-}
-
-/// Puts the monitors, and what each receives with.
-fn put_monitors(out: &mut Lowered, system: &System<'_>) {
-    for core in 0..CORES {
-        if let Some(line) = passive_line(system, core) {
-            put_monitor(out, core, line);
-            out.put("microkit.monitor");
-            out.number(core);
-            out.put(" has microkit.ep");
-            out.number(core);
-            out.line(line, 0, ":r");
+pub fn passive_line(domains: &[Domain<'_>], core: u64) -> Option<u64>
+    ensures { result ≡ passive_line domains.now core }
+{
+    for domain in domains {
+        if domain.is_passive && domain.core == core {
+            return Some(domain.line);
         }
     }
+    None
+}
+
+/// Puts the endpoint and the thread of a monitor, by which domains of a core become passive.
+fn put_monitor(out: &mut Lowered, core: u64, line: u64) -> Result<(), AllocError>
+    ensures { OnOk result (page_of out.new ≡ monitor_put (page_of out.old) core line) }
+{
+    out.put("endpoint microkit.ep")?;
+    out.number(core)?;
+    out.end(line)?;
+    out.put("thread microkit.monitor")?;
+    out.number(core)?;
+    out.put(" prio 255 on core ")?;
+    out.number(core)?;
+    out.end(line)?;
+    out.put("microkit.monitor")?;
+    out.number(core)?;
+    out.put(" has microkit.ep")?;
+    out.number(core)?;
+    out.last(line, ":r")
+}
+
+/// Puts the monitor of a core, if it has a passive domain, in whose line it stands.
+fn put_monitor_if(out: &mut Lowered, core: u64, line: Option<u64>) -> Result<(), AllocError>
+    ensures { OnOk result (page_of out.new ≡ monitor_if (page_of out.old) core line) }
+{
+    match line {
+        Some(line) => put_monitor(out, core, line),
+        None => Ok(()),
+    }
+}
+
+/// Puts the monitors of all cores.
+#[tactic(auto, using(crate::proofs::Turns::monitor_turn))]
+fn put_monitors(out: &mut Lowered, domains: &[Domain<'_>]) -> Result<(), AllocError>
+    ensures { OnOk result (page_of out.new ≡ monitors_put (page_of out.old) domains.now CORES) }
+{
+    for core in 0..CORES {
+        put_monitor_if(out, core, passive_line(domains, core))?;
+    }
+    Ok(())
+}
+
+/// Puts the objects of all domains.
+fn put_all_objects(out: &mut Lowered, domains: &[Domain<'_>]) -> Result<(), AllocError>
+    ensures { OnOk result
+        (page_of out.new ≡ each_put objects_put (page_of out.old) domains.now) }
+{
+    for domain in domains {
+        put_objects(out, domain)?;
+    }
+    Ok(())
+}
+
+/// Puts the threads of all domains.
+fn put_all_threads(out: &mut Lowered, domains: &[Domain<'_>]) -> Result<(), AllocError>
+    ensures { OnOk result (page_of out.new ≡ each_put tied_put (page_of out.old) domains.now) }
+{
+    for domain in domains {
+        put_tied(out, domain)?;
+    }
+    Ok(())
+}
+
+/// Puts the capabilities of all domains that no channel gives.
+fn put_all_own(out: &mut Lowered, domains: &[Domain<'_>]) -> Result<(), AllocError>
+    ensures { OnOk result (page_of out.new ≡ each_put own_put (page_of out.old) domains.now) }
+{
+    for domain in domains {
+        put_own(out, domain)?;
+    }
+    Ok(())
+}
+
+/// Puts what all channels give.
+fn put_channels(out: &mut Lowered, system: &System<'_>) -> Result<(), AllocError>
+    ensures { OnOk result (page_of out.new
+        ≡ channels_put (page_of out.old) system.now system.now.channels.items) }
+{
+    for channel in &system.channels {
+        put_channel(out, system, channel)?;
+    }
+    Ok(())
 }
 
 /// Puts all objects and threads of a system, and what each thread has.
-pub fn put_boot(out: &mut Lowered, system: &System<'_>) {
-    for (place, domain) in system.domains.iter().enumerate() {
-        put_objects(out, domain, system.is_called(place));
-    }
-    for domain in system.domains.iter() {
-        put_thread(out, domain);
-    }
-    put_monitors(out, system);
-    for (place, domain) in system.domains.iter().enumerate() {
-        put_inputs(out, domain, system.is_called(place));
-        if domain.is_passive {
-            put_passive(out, domain, place);
-        }
-    }
-    for channel in system.channels.iter() {
-        put_end(out, system, *channel, channel.first, channel.second);
-        put_end(out, system, *channel, channel.second, channel.first);
-    }
+pub fn put_boot(out: &mut Lowered, system: &System<'_>) -> Result<(), AllocError>
+    ensures { OnOk result (page_of out.new ≡ boot_put (page_of out.old) system.now) }
+{
+    put_all_objects(out, &system.domains)?;
+    put_all_threads(out, &system.domains)?;
+    put_monitors(out, &system.domains)?;
+    put_all_own(out, &system.domains)?;
+    put_channels(out, system)
 }

@@ -1,4 +1,6 @@
 //! The words of a statement, taken one by one.
+ghost use Rattle.std.specs.Prelude.{◌≤◌, IfOk};
+
 use mcs_plan_source::{Why, not, number};
 use std::alloc::Global;
 
@@ -59,7 +61,9 @@ impl<'a> Cursor<'a> {
     }
 
     /// Takes a number up to a limit. Missing where no word is left, Not where it is none.
-    pub fn number(&mut self, wanted: &'static str, limit: u64) -> Result<u64, Why> {
+    pub fn number(&mut self, wanted: &'static str, limit: u64) -> Result<u64, Why>
+        ensures { IfOk result (λ n. n ≤ limit) }
+    {
         let word = self.need(wanted)?;
         match number(word) {
             Some(n) if n <= limit => Ok(n),

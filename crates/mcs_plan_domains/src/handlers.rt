@@ -1,12 +1,14 @@
 //! The statements of handlers, as those of programs.
 use crate::badges::CHANNEL_MAX;
 use crate::cursor::Cursor;
+use crate::ends::End;
+use crate::inputs::{Input, put_receive, put_reply, put_send_receive};
 use crate::lowered::Lowered;
 use crate::reading::told;
 use crate::statements::Statement;
-use crate::system::{Channel, Domain, End, Event, System};
+use crate::system::{Channel, Domain, Event, System};
 use mcs_plan_source::{Shown, Why, not};
-use std::alloc::Global;
+use std::alloc::{AllocError, Global};
 
 /// A block that is open in a handler.
 #[derive(Clone, Copy)]
@@ -74,7 +76,7 @@ impl<'s, 'a> Lowerer<'s, 'a> {
             system,
             domain,
             place,
-            is_called: system.is_called(place),
+            is_called: domain.is_called,
             event: Event::Init,
             depth: 1,
             blocks: Vec::new(alloc),
@@ -82,35 +84,19 @@ impl<'s, 'a> Lowerer<'s, 'a> {
         })
     }
 
-    /// Puts the name of an entry that receives.
-    pub fn begin_input(&mut self, out: &mut Lowered) {
+    /// Returns where the next entry stands that receives.
+    fn next_input(&mut self) -> Input {
         self.inputs = self.inputs.saturating_add(1);
-        out.indent(self.depth);
-        out.put("input");
-        out.number(self.inputs);
-        out.put(": ");
-    }
-
-    /// Puts from where the domain receives: its endpoint with its reply object, or its
-    /// notification.
-    pub fn put_source(&self, out: &mut Lowered) {
-        out.put(" ");
-        out.put(self.domain.name);
-        if self.is_called {
-            out.put(".ep ");
-            out.put(self.domain.name);
-            out.put(".reply");
-        } else {
-            out.put(".ntfn");
+        Input {
+            depth: self.depth,
+            number: self.inputs,
         }
     }
 
     /// Puts an entry that only receives.
-    pub fn put_receive(&mut self, out: &mut Lowered, line: u64) {
-        self.begin_input(out);
-        out.put(if self.is_called { "recv" } else { "wait" });
-        self.put_source(out);
-        out.end(line);
+    pub fn put_receive(&mut self, out: &mut Lowered, line: u64) -> Result<(), AllocError> {
+        let input = self.next_input();
+        put_receive(out, input, self.domain, line)
     }
 
     /// Puts an entry that notifies with this capability, and receives.
@@ -120,28 +106,20 @@ impl<'s, 'a> Lowerer<'s, 'a> {
         line: u64,
         capability: &str,
         channel: Option<u64>,
-    ) {
-        self.begin_input(out);
-        out.put(if self.is_called {
-            "nbsendrecv "
-        } else {
-            "nbsendwait "
-        });
-        out.put(capability);
-        if let Some(channel) = channel {
-            out.number(channel);
-        }
-        self.put_source(out);
-        out.line(line, 0, " 0");
+    ) -> Result<(), AllocError> {
+        let input = self.next_input();
+        put_send_receive(out, input, self.domain, line, capability, channel)
     }
 
     /// Puts an entry that answers with these words, and receives.
-    pub fn put_reply(&mut self, out: &mut Lowered, line: u64, words: &[&str]) {
-        self.begin_input(out);
-        out.put("replyrecv");
-        self.put_source(out);
-        out.words(words);
-        out.end(line);
+    pub fn put_reply(
+        &mut self,
+        out: &mut Lowered,
+        line: u64,
+        words: &[&str],
+    ) -> Result<(), AllocError> {
+        let input = self.next_input();
+        put_reply(out, input, self.domain, line, words)
     }
 
     /// Begins the statements of a handler.
@@ -198,25 +176,25 @@ impl<'s, 'a> Lowerer<'s, 'a> {
     }
 
     /// Puts a statement as it is.
-    fn put_words(&self, out: &mut Lowered, statement: &Statement<'_>) {
+    fn put_words(&self, out: &mut Lowered, statement: &Statement<'_>) -> Result<(), AllocError> {
         let mut between = "";
-        out.indent(self.depth);
+        out.indent(self.depth)?;
         for word in statement.words.iter() {
-            out.put(between);
-            out.put(word);
+            out.put(between)?;
+            out.put(word)?;
             between = " ";
         }
-        out.end(statement.line);
+        out.end(statement.line)
     }
 
     /// Puts a statement that opens or closes a block.
     fn put_block(&mut self, out: &mut Lowered, statement: &Statement<'_>) -> Result<(), Why> {
         if !statement.closes() {
-            self.put_words(out, statement);
+            self.put_words(out, statement)?;
             return self.open(statement, None);
         }
         let closed = self.close();
-        self.put_words(out, statement);
+        self.put_words(out, statement)?;
         if statement.opens() {
             return self.open(statement, closed);
         }
@@ -225,14 +203,10 @@ impl<'s, 'a> Lowerer<'s, 'a> {
     }
 
     /// Returns the channel of a number. A fault where the domain has none.
-    fn channel(&self, number: u64) -> Result<Channel, Why> {
-        let end = End {
-            domain: self.place,
-            channel: number,
-        };
+    fn channel(&self, end: End) -> Result<Channel, Why> {
         match self.system.channel(end) {
             Some(channel) => Ok(channel),
-            None => Err(self.no_channel(number)),
+            None => Err(self.no_channel(end.channel)),
         }
     }
 
@@ -245,20 +219,30 @@ impl<'s, 'a> Lowerer<'s, 'a> {
     }
 
     /// Reads the number of a channel that the domain has.
-    fn need_channel(&self, words: &mut Cursor<'_>) -> Result<(u64, Channel), Why> {
-        let number = words.number("a channel, from 0 to 62", CHANNEL_MAX)?;
-        Ok((number, self.channel(number)?))
+    fn need_channel(&self, words: &mut Cursor<'_>) -> Result<(End, Channel), Why> {
+        let channel = words.number("a channel, from 0 to 62", CHANNEL_MAX)?;
+        let own = End {
+            domain: self.place,
+            channel,
+        };
+        Ok((own, self.channel(own)?))
     }
 
     /// Puts the beginning of an entry: the name that it has, and what it invokes.
-    fn put_entry(&self, out: &mut Lowered, label: Option<&str>, text: &str, number: u64) {
-        out.indent(self.depth);
+    fn put_entry(
+        &self,
+        out: &mut Lowered,
+        label: Option<&str>,
+        text: &str,
+        number: u64,
+    ) -> Result<(), AllocError> {
+        out.indent(self.depth)?;
         if let Some(label) = label {
-            out.put(label);
-            out.put(" ");
+            out.put(label)?;
+            out.put(" ")?;
         }
-        out.put(text);
-        out.number(number);
+        out.put(text)?;
+        out.number(number)
     }
 
     /// Puts `notify CHANNEL`.
@@ -269,11 +253,10 @@ impl<'s, 'a> Lowerer<'s, 'a> {
         label: Option<&str>,
         words: &mut Cursor<'_>,
     ) -> Result<(), Why> {
-        let (number, _channel) = self.need_channel(words)?;
+        let (own, _channel) = self.need_channel(words)?;
         words.end()?;
-        self.put_entry(out, label, "signal notify.", number);
-        out.end(line);
-        Ok(())
+        self.put_entry(out, label, "signal notify.", own.channel)?;
+        Ok(out.end(line)?)
     }
 
     /// Puts `ppcall CHANNEL LABEL WORDS`.
@@ -284,23 +267,19 @@ impl<'s, 'a> Lowerer<'s, 'a> {
         label: Option<&str>,
         words: &mut Cursor<'_>,
     ) -> Result<(), Why> {
-        let (number, channel) = self.need_channel(words)?;
-        let own = End {
-            domain: self.place,
-            channel: number,
-        };
+        let (own, channel) = self.need_channel(words)?;
         if !channel.is_called || channel.first != own {
             let shown = Shown {
                 text: self.domain.name,
             };
+            let number = own.channel;
             return Err(told(format!(in self.alloc;
                 "{shown} has no protected procedures to call over channel {number}"
             )));
         }
-        self.put_entry(out, label, "call ppcall.", number);
-        out.words(words.rest());
-        out.end(line);
-        Ok(())
+        self.put_entry(out, label, "call ppcall.", own.channel)?;
+        out.words(words.rest())?;
+        Ok(out.end(line)?)
     }
 
     /// Puts `deferred notify CHANNEL`: the channel is kept until the next entry that receives.
@@ -311,11 +290,10 @@ impl<'s, 'a> Lowerer<'s, 'a> {
         words: &mut Cursor<'_>,
     ) -> Result<(), Why> {
         words.expect("notify")?;
-        let (number, _channel) = self.need_channel(words)?;
+        let (own, _channel) = self.need_channel(words)?;
         words.end()?;
-        self.put_entry(out, None, "deferred = ", number.saturating_add(1));
-        out.end(line);
-        Ok(())
+        self.put_entry(out, None, "deferred = ", own.channel.saturating_add(1))?;
+        Ok(out.end(line)?)
     }
 
     /// Puts `reply LABEL WORDS`, which leaves the handler: the domain answers and receives.
@@ -339,9 +317,9 @@ impl<'s, 'a> Lowerer<'s, 'a> {
                 "stands in a loop of its handler: keep a word, and break",
             ));
         }
-        self.put_reply(out, line, words);
+        self.put_reply(out, line, words)?;
         if !is_last || self.is_in_block() {
-            out.line(line, self.depth, "continue");
+            out.line(line, self.depth, "continue")?;
         }
         Ok(())
     }
@@ -390,8 +368,7 @@ impl<'s, 'a> Lowerer<'s, 'a> {
         if (keyword == "break" || keyword == "continue") && !self.is_in_loop() {
             return Err(misplaced(self.alloc, keyword, "stands in no loop of its handler"));
         }
-        self.put_words(out, statement);
-        Ok(())
+        Ok(self.put_words(out, statement)?)
     }
 
     /// Puts a statement of a handler, which may be its last.

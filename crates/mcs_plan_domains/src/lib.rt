@@ -4,7 +4,8 @@
 //! a plan ── statements ──> the statements of its lines
 //!     ── reading ──> a `System`: domains with their handlers, channels, and all other lines
 //!     ── capabilities ──> objects, threads, and what each domain has
-//!     ── handlers, programs ──> a program for each domain: the loop of libmicrokit
+//!     ── handlers, inputs, programs ──> a program for each domain: the loop of libmicrokit
+//!     ── monitors ──> a program for each monitor; questions ──> what is asked of all orders
 //!     ── lowered ──> the lines of a plan without domains, each with the line it came from
 //!     ── passives ──> passive threads among users, as a thread that makes them so
 //! ```
@@ -13,15 +14,24 @@
 mod badges;
 mod capabilities;
 mod cursor;
+mod ends;
+mod fault;
 mod handlers;
+mod inputs;
 mod lowered;
 mod lowering;
+mod monitors;
 mod passives;
 mod programs;
+mod questions;
 mod reading;
 mod statements;
 mod system;
 
 pub use badges::{called_badge, notified_badge};
+pub use ends::End;
 pub use lowered::Lowered;
-pub use lowering::lower;
+pub use lowering::{lower, lower_system};
+pub use reading::read_system;
+pub use statements::Statement;
+pub use system::{Channel, Domain, Event, Handler, Plain, System};

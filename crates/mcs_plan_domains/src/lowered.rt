@@ -1,83 +1,124 @@
 //! The lines of a plan that are made, and of which line each came.
-use mcs_plan_source::Why;
-use std::alloc::Global;
+ghost use Rattle.std.specs.Prelude.{◌≡◌, ◌++◌, ◌∷◌, [], false, OnOk};
+ghost use Rattle.std.specs.Fmt.{digits};
+ghost use Rattle.mcs_plan_domains.specs.Pages.{blank, ended, hex_put, indented, joined, last_put, number_put, page_of, put, words_put};
 
-/// A plan without domains, and for each of its lines the line from which it came. Where memory is
-/// refused the rest is left out, and `finish` says so: the code that puts the text together need
-/// not ask.
+use std::alloc::{AllocError, Global};
+
+/// A plan without domains, and for each of its lines the line from which it came. What is put into
+/// it fails with AllocError where memory is refused.
 #[derive(Drop)]
 pub struct Lowered {
     pub text: String,
     pub lines: Vec<u64>,
-    is_cut: bool,
+}
+
+/// Adds the number of a line.
+fn push_line(lines: &mut Vec<u64>, line: u64) -> Result<(), AllocError>
+    ensures { OnOk result (lines.new.items ≡ lines.old.items ++ line ∷ []) }
+{
+    lines.push(line)?;
+    Ok(())
 }
 
 impl Lowered {
     /// Returns a plan without a line.
-    pub fn new(alloc: Global) -> Lowered {
+    #[tactic(auto, unfolding(crate::specs::Pages::page_of))]
+    pub fn new(alloc: Global) -> Lowered
+        ensures { page_of result ≡ blank }
+    {
         Lowered {
             text: String::new(alloc),
             lines: Vec::new(alloc),
-            is_cut: false,
         }
     }
 
     /// Puts a text.
-    pub fn put(&mut self, text: &str) {
-        if self.text.push_str(text).is_err() {
-            self.is_cut = true;
-        }
+    #[tactic(auto, unfolding(crate::specs::Pages::page_of, crate::specs::Pages::put))]
+    pub fn put(&mut self, text: &str) -> Result<(), AllocError>
+        ensures { OnOk result (page_of self.new ≡ put (page_of self.old) text.now) }
+    {
+        self.text.push_str(text)
     }
 
     /// Puts two blanks for each block that is open.
-    pub fn indent(&mut self, depth: usize) {
+    #[tactic(auto, using(crate::proofs::Turns::block_turn))]
+    pub fn indent(&mut self, depth: usize) -> Result<(), AllocError>
+        ensures { OnOk result (page_of self.new ≡ indented (page_of self.old) depth) }
+    {
         for _ in 0..depth {
-            self.put("  ");
+            self.put("  ")?;
         }
+        Ok(())
     }
 
     /// Puts a number.
-    pub fn number(&mut self, number: u64) {
-        if write!(&mut self.text, "{number}").is_err() {
-            self.is_cut = true;
-        }
+    #[tactic(auto, unfolding(crate::specs::Pages::page_of, crate::specs::Pages::put))]
+    pub fn number(&mut self, number: u64) -> Result<(), AllocError>
+        ensures { OnOk result (page_of self.new ≡ number_put (page_of self.old) number) }
+    {
+        write!(&mut self.text, "{number}")
     }
 
-    /// Puts a number in base 16.
-    pub fn hex(&mut self, number: u64) {
-        if write!(&mut self.text, "{number:#x}").is_err() {
-            self.is_cut = true;
-        }
+    /// Puts the digits of a number in base 16.
+    #[tactic(auto, unfolding(crate::specs::Pages::page_of, crate::specs::Pages::put))]
+    fn digits(&mut self, number: u64) -> Result<(), AllocError>
+        ensures { OnOk result (page_of self.new ≡ put (page_of self.old) (digits 16 false number)) }
+    {
+        write!(&mut self.text, "{number:x}")
+    }
+
+    /// Puts a number in base 16, behind `0x`.
+    pub fn hex(&mut self, number: u64) -> Result<(), AllocError>
+        ensures { OnOk result (page_of self.new ≡ hex_put (page_of self.old) number) }
+    {
+        self.put("0x")?;
+        self.digits(number)
     }
 
     /// Puts words with a blank before each.
-    pub fn words(&mut self, words: &[&str]) {
+    pub fn words(&mut self, words: &[&str]) -> Result<(), AllocError>
+        ensures { OnOk result (page_of self.new ≡ words_put (page_of self.old) words.now) }
+    {
         for word in words {
-            self.put(" ");
-            self.put(word);
+            self.put(" ")?;
+            self.put(word)?;
         }
+        Ok(())
     }
 
     /// Ends a line, which came from this one.
-    pub fn end(&mut self, line: u64) {
-        self.put("\n");
-        if self.lines.push(line).is_err() {
-            self.is_cut = true;
-        }
+    #[tactic(auto, unfolding(crate::specs::Pages::page_of, crate::specs::Pages::ended))]
+    pub fn end(&mut self, line: u64) -> Result<(), AllocError>
+        ensures { OnOk result (page_of self.new ≡ ended (page_of self.old) line) }
+    {
+        self.text.push_str("\n")?;
+        push_line(&mut self.lines, line)
     }
 
-    /// Puts a line, which came from this one.
-    pub fn line(&mut self, line: u64, depth: usize, text: &str) {
-        self.indent(depth);
-        self.put(text);
-        self.end(line);
+    /// Puts the last text of a line, which came from this one.
+    pub fn last(&mut self, line: u64, text: &str) -> Result<(), AllocError>
+        ensures { OnOk result (page_of self.new ≡ last_put (page_of self.old) text.now line) }
+    {
+        self.put(text)?;
+        self.end(line)
     }
 
-    /// Returns the plan. OutOfMemory where memory was refused.
-    pub fn finish(self) -> Result<Lowered, Why> {
-        if self.is_cut {
-            return Err(Why::OutOfMemory);
-        }
-        Ok(self)
+    /// Puts a line, which came from this one, in so many blocks.
+    pub fn line(&mut self, line: u64, depth: usize, text: &str) -> Result<(), AllocError>
+        ensures { OnOk result
+            (page_of self.new ≡ last_put (indented (page_of self.old) depth) text.now line) }
+    {
+        self.indent(depth)?;
+        self.last(line, text)
+    }
+
+    /// Puts another plan behind it.
+    #[tactic(auto, unfolding(crate::specs::Pages::page_of, crate::specs::Pages::joined))]
+    pub fn join(&mut self, other: &Lowered) -> Result<(), AllocError>
+        ensures { OnOk result (page_of self.new ≡ joined (page_of self.old) (page_of other.now)) }
+    {
+        self.text.push_str(other.text.as_str())?;
+        self.lines.extend_from_slice(&other.lines)
     }
 }

@@ -1,41 +1,65 @@
 //! A plan with protection domains, or with passive threads among users, as one without.
+ghost use Rattle.std.specs.Prelude.{◌≡◌, OnOk};
+ghost use Rattle.mcs_plan_domains.specs.Pages.{page_of};
+ghost use Rattle.mcs_plan_domains.specs.Lowered.{plain_put, system_put};
+
 use crate::capabilities::put_boot;
+use crate::fault::Refused;
 use crate::lowered::Lowered;
+use crate::monitors::put_monitor_programs;
 use crate::passives::lower_passives;
 use crate::programs::put_programs;
+use crate::questions::put_questions;
 use crate::reading::read_system;
 use crate::system::{Plain, System};
 use mcs_plan_source::PlanFault;
-use std::alloc::Global;
+use std::alloc::{AllocError, Global};
 
 /// Puts lines as they are.
-fn put_plain(out: &mut Lowered, lines: &[Plain<'_>]) {
+fn put_plain(out: &mut Lowered, lines: &[Plain<'_>]) -> Result<(), AllocError>
+    ensures { OnOk result (page_of out.new ≡ plain_put (page_of out.old) lines.now) }
+{
     for plain in lines {
-        out.line(plain.line, 0, plain.text);
+        out.last(plain.line, plain.text)?;
     }
+    Ok(())
 }
 
-/// Puts all lines of a system.
-fn put_system(alloc: Global, out: &mut Lowered, system: &System<'_>) -> Result<(), PlanFault> {
-    put_plain(out, &system.heads);
-    put_boot(out, system);
-    put_programs(alloc, out, system)?;
-    put_plain(out, &system.tails);
-    put_plain(out, &system.questions);
-    Ok(())
+/// Puts all lines of a system, of which these are the programs of its domains.
+fn put_system(out: &mut Lowered, system: &System<'_>, programs: &Lowered) -> Result<(), AllocError>
+    ensures { OnOk result
+        (page_of out.new ≡ system_put system.now (page_of programs.now) (page_of out.old)) }
+{
+    put_plain(out, &system.heads)?;
+    put_boot(out, system)?;
+    out.join(programs)?;
+    put_monitor_programs(out, &system.domains)?;
+    put_plain(out, &system.tails)?;
+    put_questions(out, &system.questions)
+}
+
+/// Puts all lines of a system, which has its programs.
+fn lowered_of(alloc: Global, system: &System<'_>) -> Result<Lowered, Refused> {
+    let mut programs = Lowered::new(alloc);
+    put_programs(alloc, &mut programs, system)?;
+    let mut out = Lowered::new(alloc);
+    put_system(&mut out, system, &programs)?;
+    Ok(out)
+}
+
+/// Returns the plan of a system: its other lines, the objects of its domains, their threads, what
+/// each domain has, a program for each domain and each monitor, and its questions (`system_put`).
+/// The faults name the line and the word; OutOfMemory where memory was refused.
+pub fn lower_system(alloc: Global, system: &System<'_>) -> Result<Lowered, PlanFault> {
+    Ok(lowered_of(alloc, system)?)
 }
 
 /// Returns a plan in which each protection domain is objects, capabilities and a program, or None
 /// where the plan has neither a domain nor a channel.
 fn lower_domains(alloc: Global, plan: &str) -> Result<Option<Lowered>, PlanFault> {
-    let Some(system) = read_system(alloc, plan)? else {
-        return Ok(None);
-    };
-    let mut out = Lowered::new(alloc);
-    put_system(alloc, &mut out, &system)?;
-    match out.finish() {
-        Ok(lowered) => Ok(Some(lowered)),
-        Err(why) => Err(PlanFault { line: 0, why }),
+    match read_system(alloc, plan)? {
+        Some(system) => Ok(Some(lower_system(alloc, &system)?)),
+        None => Ok(None),
     }
 }
 

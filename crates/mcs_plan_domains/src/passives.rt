@@ -2,7 +2,7 @@
 //! context away, and only then lets the other users begin.
 use crate::lowered::Lowered;
 use mcs_plan_source::{PlanFault, STARTER, Why, split_comment, split_words};
-use std::alloc::Global;
+use std::alloc::{AllocError, Global};
 
 /// A passive thread: it receives on an endpoint with a reply object.
 #[derive(Clone, Copy)]
@@ -129,94 +129,107 @@ impl<'a> Threads<'a> {
 }
 
 /// Puts some words, with the name of a thread among them.
-fn put_named(out: &mut Lowered, line: u64, before: &str, name: &str, after: &str) {
-    out.put(before);
-    out.put(name);
-    out.line(line, 0, after);
+fn put_named(
+    out: &mut Lowered,
+    line: u64,
+    before: &str,
+    name: &str,
+    after: &str,
+) -> Result<(), AllocError> {
+    out.put(before)?;
+    out.put(name)?;
+    out.last(line, after)
 }
 
 /// Puts the name of the notification by which a passive thread tells that it has begun to receive.
-fn put_ready(out: &mut Lowered, passive: Passive<'_>) {
-    out.put(STARTER);
-    out.put(".ready");
-    out.number((passive.place as u64).saturating_add(1));
+fn put_ready(out: &mut Lowered, passive: Passive<'_>) -> Result<(), AllocError> {
+    out.put(STARTER)?;
+    out.put(".ready")?;
+    out.number((passive.place as u64).saturating_add(1))
 }
 
 /// Puts the entry by which a passive thread begins: it tells so as it receives.
-fn put_receive(out: &mut Lowered, passive: Passive<'_>) {
-    out.put("nbsendrecv ");
-    put_ready(out, passive);
-    out.put(" ");
-    out.put(passive.endpoint);
-    out.put(" ");
-    out.put(passive.reply);
-    out.line(passive.line, 0, " 0");
+fn put_receive(out: &mut Lowered, passive: Passive<'_>) -> Result<(), AllocError> {
+    out.put("nbsendrecv ")?;
+    put_ready(out, passive)?;
+    out.put(" ")?;
+    out.put(passive.endpoint)?;
+    out.put(" ")?;
+    out.put(passive.reply)?;
+    out.last(passive.line, " 0")
 }
 
 /// Puts what a passive thread and the starter need for it.
-fn put_needs(out: &mut Lowered, passive: Passive<'_>) {
+fn put_needs(out: &mut Lowered, passive: Passive<'_>) -> Result<(), AllocError> {
     let line = passive.line;
-    out.put(passive.name);
-    out.put(" has ");
-    put_ready(out, passive);
-    out.line(line, 0, ":w");
-    out.put(STARTER);
-    out.put(" has ");
-    put_ready(out, passive);
-    out.line(line, 0, ":r");
-    out.put(STARTER);
-    put_named(out, line, " has ", passive.name, ".context");
+    out.put(passive.name)?;
+    out.put(" has ")?;
+    put_ready(out, passive)?;
+    out.last(line, ":w")?;
+    out.put(STARTER)?;
+    out.put(" has ")?;
+    put_ready(out, passive)?;
+    out.last(line, ":r")?;
+    out.put(STARTER)?;
+    put_named(out, line, " has ", passive.name, ".context")
 }
 
 /// Puts the thread that starts the others, and what it has.
-fn put_starter(out: &mut Lowered, threads: &Threads<'_>, first: u64) {
+fn put_starter(out: &mut Lowered, threads: &Threads<'_>, first: u64) -> Result<(), AllocError> {
     for passive in threads.passives.iter() {
-        out.put("notification ");
-        put_ready(out, *passive);
-        out.end(passive.line);
+        out.put("notification ")?;
+        put_ready(out, *passive)?;
+        out.end(passive.line)?;
     }
-    put_named(out, first, "thread ", STARTER, " prio 255");
-    put_named(out, first, STARTER, " has ", STARTER);
+    put_named(out, first, "thread ", STARTER, " prio 255")?;
+    put_named(out, first, STARTER, " has ", STARTER)?;
     for passive in threads.passives.iter() {
-        put_needs(out, *passive);
+        put_needs(out, *passive)?;
     }
     for runner in threads.runners.iter() {
         if threads.is_held(runner.name) {
-            put_named(out, runner.line, STARTER, " has ", runner.name);
+            put_named(out, runner.line, STARTER, " has ", runner.name)?;
         }
     }
+    Ok(())
 }
 
 /// Puts an entry of the starter.
-fn put_entry(out: &mut Lowered, line: u64, entry: &str, name: &str, after: &str) {
-    out.put("user ");
-    out.put(STARTER);
-    put_named(out, line, entry, name, after);
+fn put_entry(
+    out: &mut Lowered,
+    line: u64,
+    entry: &str,
+    name: &str,
+    after: &str,
+) -> Result<(), AllocError> {
+    out.put("user ")?;
+    out.put(STARTER)?;
+    put_named(out, line, entry, name, after)
 }
 
 /// Puts the entries of the starter: it waits until all passive threads receive, takes their
 /// contexts away, lets the other users begin, and suspends itself.
-fn put_entries(out: &mut Lowered, threads: &Threads<'_>, first: u64) {
+fn put_entries(out: &mut Lowered, threads: &Threads<'_>, first: u64) -> Result<(), AllocError> {
     for passive in threads.passives.iter() {
-        out.put("user ");
-        out.put(STARTER);
-        out.put(": wait ");
-        put_ready(out, *passive);
-        out.end(passive.line);
+        out.put("user ")?;
+        out.put(STARTER)?;
+        out.put(": wait ")?;
+        put_ready(out, *passive)?;
+        out.end(passive.line)?;
     }
     for passive in threads.passives.iter() {
-        put_entry(out, passive.line, ": unbind ", passive.name, ".context");
+        put_entry(out, passive.line, ": unbind ", passive.name, ".context")?;
     }
     for runner in threads.runners.iter() {
         if threads.is_held(runner.name) {
-            put_entry(out, runner.line, ": resume ", runner.name, "");
+            put_entry(out, runner.line, ": resume ", runner.name, "")?;
         }
     }
-    put_entry(out, first, ": suspend ", STARTER, "");
+    put_entry(out, first, ": suspend ", STARTER, "")
 }
 
 /// Puts the line of a passive thread without the words that say so.
-fn put_passive(out: &mut Lowered, line: &Line<'_>) {
+fn put_passive(out: &mut Lowered, line: &Line<'_>) -> Result<(), AllocError> {
     let mut left: usize = 0;
     let mut between = "";
     for word in line.words.iter() {
@@ -224,76 +237,87 @@ fn put_passive(out: &mut Lowered, line: &Line<'_>) {
             left = 5;
         }
         if left == 0 {
-            out.put(between);
-            out.put(word);
+            out.put(between)?;
+            out.put(word)?;
             between = " ";
         }
         left = left.saturating_sub(1);
     }
-    out.end(line.origin);
+    out.end(line.origin)
 }
 
 /// Puts a line of a thread or of a user as it is where some threads are passive.
-fn put_line(out: &mut Lowered, threads: &Threads<'_>, line: &Line<'_>) {
+fn put_line(out: &mut Lowered, threads: &Threads<'_>, line: &Line<'_>) -> Result<(), AllocError> {
     if passive_of(&line.words, line.origin, 0).is_some() {
         return put_passive(out, line);
     }
     let is_held = thread_of(&line.words).is_some_and(|name| threads.is_held(name));
     if is_held && runs(&line.words) {
         let (code, _comment) = split_comment(line.text);
-        out.put(code);
-        return out.line(line.origin, 0, " stopped");
+        out.put(code)?;
+        return out.last(line.origin, " stopped");
     }
-    out.line(line.origin, 0, line.text);
+    out.last(line.origin, line.text)
 }
 
 /// Puts the first entry of a passive thread where its program begins, behind that line.
-fn put_behind(out: &mut Lowered, threads: &Threads<'_>, line: &Line<'_>) {
+fn put_behind(out: &mut Lowered, threads: &Threads<'_>, line: &Line<'_>) -> Result<(), AllocError> {
     if !is_program(&line.words) {
-        return;
+        return Ok(());
     }
     if let Some(name) = user_of(&line.words)
         && let Some(passive) = threads.passive(name)
     {
-        out.put("  ");
-        put_receive(out, passive);
+        out.put("  ")?;
+        put_receive(out, passive)?;
     }
+    Ok(())
 }
 
 /// Puts the first entry of a passive thread as a line of a user.
-fn put_first(out: &mut Lowered, passive: Passive<'_>) {
-    out.put("user ");
-    out.put(passive.name);
-    out.put(": ");
-    put_receive(out, passive);
+fn put_first(out: &mut Lowered, passive: Passive<'_>) -> Result<(), AllocError> {
+    out.put("user ")?;
+    out.put(passive.name)?;
+    out.put(": ")?;
+    put_receive(out, passive)
 }
 
 /// Puts the first entries of all passive threads without a program, and of the starter what its
 /// boot needs.
-fn put_front(out: &mut Lowered, threads: &Threads<'_>, lines: &[Line<'_>], first: u64) {
-    put_starter(out, threads, first);
+fn put_front(
+    out: &mut Lowered,
+    threads: &Threads<'_>,
+    lines: &[Line<'_>],
+    first: u64,
+) -> Result<(), AllocError> {
+    put_starter(out, threads, first)?;
     for passive in threads.passives.iter() {
-        let has_program = lines
-            .iter()
-            .any(|line| is_program(&line.words) && user_of(&line.words) == Some(passive.name));
+        let has_program = lines.iter().any(|line| is_program(&line.words)
+            && user_of(&line.words) == Some(passive.name));
         if !has_program {
-            put_first(out, *passive);
+            put_first(out, *passive)?;
         }
     }
+    Ok(())
 }
 
 /// Puts all lines of a plan.
-fn put_plan(out: &mut Lowered, threads: &Threads<'_>, lines: &[Line<'_>], first: u64) {
+fn put_plan(
+    out: &mut Lowered,
+    threads: &Threads<'_>,
+    lines: &[Line<'_>],
+    first: u64,
+) -> Result<(), AllocError> {
     let mut is_front = true;
     for line in lines {
         if is_front && user_of(&line.words).is_some() {
-            put_front(out, threads, lines, first);
+            put_front(out, threads, lines, first)?;
             is_front = false;
         }
-        put_line(out, threads, line);
-        put_behind(out, threads, line);
+        put_line(out, threads, line)?;
+        put_behind(out, threads, line)?;
     }
-    put_entries(out, threads, first);
+    put_entries(out, threads, first)
 }
 
 /// Returns the lines of a plan, each with the one of these from which it came, or its own number
@@ -337,8 +361,8 @@ fn lowered_of(alloc: Global, plan: &str, origins: &[u64]) -> Result<Option<Lower
         Some(_) | None => return Ok(None),
     };
     let mut out = Lowered::new(alloc);
-    put_plan(&mut out, &threads, &lines, first);
-    Ok(Some(out.finish()?))
+    put_plan(&mut out, &threads, &lines, first)?;
+    Ok(Some(out))
 }
 
 /// Returns a plan in which each passive thread is one that a starter makes passive, where its lines

@@ -1,8 +1,9 @@
 //! Reads a plan with protection domains.
 use crate::badges::CHANNEL_MAX;
 use crate::cursor::Cursor;
+use crate::ends::End;
 use crate::statements::{Statement, statements_of};
-use crate::system::{Channel, Domain, End, Event, Handler, Plain, System};
+use crate::system::{Channel, Domain, Event, Handler, Plain, System};
 use mcs_plan_source::{
     PlanFault, Shown, Why, add_word, is_name, not, number, split_comment, split_words,
 };
@@ -105,8 +106,12 @@ fn read_parts(words: &mut Cursor<'_>, domain: &mut Domain<'_>) -> Result<(), Why
     Ok(())
 }
 
-/// Reads the line that begins a domain.
-fn read_domain<'a>(alloc: Global, statement: &Statement<'a>) -> Result<Domain<'a>, Why> {
+/// Reads the line that begins a domain, which has this number.
+fn read_domain<'a>(
+    alloc: Global,
+    statement: &Statement<'a>,
+    number: u64,
+) -> Result<Domain<'a>, Why> {
     let mut words = Cursor::new(alloc, &statement.words, 1);
     words.need("the name of a domain")?;
     let name = statement.words.get(1).copied().unwrap_or("");
@@ -123,6 +128,8 @@ fn read_domain<'a>(alloc: Global, statement: &Statement<'a>) -> Result<Domain<'a
         priority: 0,
         core: 0,
         is_passive: false,
+        is_called: false,
+        number,
         kept: Vec::new(alloc),
         handlers: Vec::new(alloc),
     };
@@ -145,9 +152,16 @@ impl<'a> System<'a> {
     }
 
     /// Adds a line that says nothing of domains.
-    fn add_plain(&mut self, plain: Plain<'a>, words: &[&str]) -> Result<(), AllocError> {
+    fn add_plain(
+        &mut self,
+        alloc: Global,
+        plain: Plain<'a>,
+        words: &[&str],
+    ) -> Result<(), AllocError> {
         if plain.text.trim().starts_with("#!") {
-            self.questions.push(plain)?;
+            let words = split_words(alloc, plain.text)?;
+            let line = plain.line;
+            self.questions.push(Statement { words, line })?;
         } else if begins_entries(words) || !self.tails.is_empty() {
             self.tails.push(plain)?;
         } else {
@@ -182,10 +196,13 @@ impl<'a> System<'a> {
         let Some(domain) = self.find(name) else {
             return Err(self.no_domain(alloc, name)?);
         };
-        let end = match number(digits) {
-            Some(channel) if channel <= CHANNEL_MAX => End { domain, channel },
-            _ => return Err(not(alloc, word, END)),
+        let Some(channel) = number(digits) else {
+            return Err(not(alloc, word, END));
         };
+        if channel > CHANNEL_MAX {
+            return Err(not(alloc, word, END));
+        }
+        let end = End { domain, channel };
         if self.channel(end).is_some() {
             return Err(twice(alloc, word));
         }
@@ -206,6 +223,11 @@ impl<'a> System<'a> {
             return Err(told(format!(in alloc; "a channel joins two domains")));
         }
         self.channels.push(channel)?;
+        if channel.is_called
+            && let Some(domain) = self.domains.get_mut(channel.second.domain)
+        {
+            domain.is_called = true;
+        }
         Ok(())
     }
 
@@ -260,7 +282,8 @@ impl<'a> Reader<'a> {
         let (code, _comment) = split_comment(text);
         let words = split_words(self.alloc, code)?;
         if self.is_plain(&words) {
-            self.system.add_plain(Plain { line, text }, &words)?;
+            self.system
+                .add_plain(self.alloc, Plain { line, text }, &words)?;
             return Ok(());
         }
         for statement in statements_of(self.alloc, line, &words)? {
@@ -296,7 +319,8 @@ impl<'a> Reader<'a> {
         if first != "pd" {
             return Err(not(self.alloc, first, "pd or channel"));
         }
-        let domain = read_domain(self.alloc, &statement)?;
+        let number = (self.system.domains.len() as u64).saturating_add(1);
+        let domain = read_domain(self.alloc, &statement, number)?;
         if self.system.find(domain.name).is_some() {
             return Err(twice(self.alloc, domain.name));
         }

@@ -1,4 +1,5 @@
 //! A system of protection domains, as a plan says it.
+use crate::ends::End;
 use crate::statements::Statement;
 
 /// When a handler runs.
@@ -28,16 +29,13 @@ pub struct Domain<'a> {
     pub priority: u64,
     pub core: u64,
     pub is_passive: bool,
+    /// Whether another domain may call it.
+    pub is_called: bool,
+    /// Its number among the domains, from 1 on.
+    pub number: u64,
     /// The words that it keeps, as `let NAME = VALUE`.
     pub kept: Vec<Statement<'a>>,
     pub handlers: Vec<Handler<'a>>,
-}
-
-/// An end of a channel: the place of a domain, and the channel's number there.
-#[derive(Clone, Copy, PartialEq, Eq)]
-pub struct End {
-    pub domain: usize,
-    pub channel: u64,
 }
 
 /// A channel. If it has protected procedures, its first end may call them at its second.
@@ -66,7 +64,7 @@ pub struct System<'a> {
     /// Those from there on.
     pub tails: Vec<Plain<'a>>,
     /// The questions of all orders.
-    pub questions: Vec<Plain<'a>>,
+    pub questions: Vec<Statement<'a>>,
 }
 
 impl Channel {
@@ -115,17 +113,5 @@ impl<'a> System<'a> {
             .iter()
             .find(|channel| channel.other(end).is_some())
             .copied()
-    }
-
-    /// Returns whether a protected procedure of a domain can be called.
-    pub fn is_called(&self, domain: usize) -> bool {
-        self.channels.iter().any(|channel| channel.is_called && channel.second.domain == domain)
-    }
-
-    /// Returns whether some domain of a core is passive.
-    pub fn has_passive(&self, core: u64) -> bool {
-        self.domains
-            .iter()
-            .any(|domain| domain.is_passive && domain.core == core)
     }
 }

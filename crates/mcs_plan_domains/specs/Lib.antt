@@ -1,0 +1,6 @@
+pub mod Boots
+pub mod Inputs
+pub mod Lowered
+pub mod Monitors
+pub mod Pages
+pub mod Questions

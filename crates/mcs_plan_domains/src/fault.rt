@@ -1,0 +1,35 @@
+//! Why no program comes of a domain.
+use mcs_plan_source::{PlanFault, Why};
+use std::alloc::AllocError;
+
+/// Why a statement is refused, and in which line of the plan it stands; line 0 where memory was
+/// refused.
+#[derive(Drop)]
+pub struct Refused {
+    pub line: u64,
+    pub why: Why,
+}
+
+impl From<AllocError> for Refused {
+    fn from(_error: AllocError) -> Refused {
+        Refused {
+            line: 0,
+            why: Why::OutOfMemory,
+        }
+    }
+}
+
+impl From<Refused> for PlanFault {
+    fn from(refused: Refused) -> PlanFault {
+        let Refused { line, why } = refused;
+        PlanFault { line, why }
+    }
+}
+
+/// Returns a fault with its line.
+pub fn at<T: Drop>(line: u64, done: Result<T, Why>) -> Result<T, Refused> {
+    match done {
+        Ok(value) => Ok(value),
+        Err(why) => Err(Refused { line, why }),
+    }
+}
