@@ -273,9 +273,8 @@ fn put_first(out: &mut Lowered, passive: Passive<'_>) {
 fn put_front(out: &mut Lowered, threads: &Threads<'_>, lines: &[Line<'_>], first: u64) {
     put_starter(out, threads, first);
     for passive in threads.passives.iter() {
-        let has_program = lines
-            .iter()
-            .any(|line| is_program(&line.words) && user_of(&line.words) == Some(passive.name));
+        let has_program = lines.iter().any(|line| is_program(&line.words)
+            && user_of(&line.words) == Some(passive.name));
         if !has_program {
             put_first(out, *passive);
         }
