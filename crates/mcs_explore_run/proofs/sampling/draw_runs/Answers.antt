@@ -4,7 +4,7 @@ use Rattle.mcs_explore_orders.specs.Shown.{nothing}
 use Rattle.mcs_explore_script.specs.declared.questions.AskedLine.{AskedLine}
 use Rattle.mcs_explore_report.specs.Kept.{Aims, IsKept}
 use Rattle.mcs_explore_report.proofs.Seeing.{begun}
-use Rattle.mcs_explore_run.proofs.Showing.{nothing-shown}
+use Rattle.mcs_explore_run.proofs.Sights.{nothing-shown}
 use Rattle.mcs_explore_run.proofs.sampling.draw_runs.Goals as goal
 
 pub loop-number-init : goal.loop-number-init
