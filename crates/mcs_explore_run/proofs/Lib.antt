@@ -2,4 +2,4 @@ mod Draws
 mod Failing
 mod Judging
 mod Lengths
-mod Showing
+mod Sights

@@ -1,6 +1,6 @@
 //! What runs show of questions.
-ghost use Rattle.std.specs.Prelude.{◌≡◌, ◌<◌, ◌⊎◌, ◌++◌, ◌∷◌, [], true, false, IfOk, OnOk, is_some, length};
-ghost use Rattle.mcs_explore_report.specs.Verdicts.{failed_at};
+ghost use Rattle.std.specs.Prelude.{◌≡◌, ◌<◌, ◌⊎◌, ◌++◌, ◌∷◌, [], true, false, IfOk, None, OnOk, is_some, length};
+ghost use Rattle.mcs_explore_report.specs.Verdicts.{IsVerdict, failed_at};
 ghost use Rattle.mcs_explore_run.specs.Samples.{HasShownFailure, IsShownToFail, any_fails, fails};
 
 use crate::sampling::Sample;
@@ -56,6 +56,29 @@ fn showed_by(asked: &Asked, verdict: Verdict) -> Showed
     }
 }
 
+/// Returns the verdict on the question with a number, from 0 on, by what is kept of runs. Answers
+/// are spelled in this line. OutOfMemory where memory was refused.
+fn verdict_of(
+    alloc: Global,
+    line: &mut Line,
+    script: &UserScript,
+    sample: &Sample<'_>,
+    number: usize,
+    question: &AskedLine,
+) -> Result<Verdict, LabFault>
+    ensures { IfOk result (λ v. IsVerdict script.now.users sample.now.watched.ends
+        sample.now.watched.answers (failed_at sample.now.watched.failed.items number) None
+        question.now.asked v) }
+{
+    let grounds = Grounds {
+        users: &script.users,
+        ends: sample.watched.ends.kinds(),
+        answers: &sample.watched.answers,
+        failed: &sample.watched.failed,
+    };
+    verdict_on(alloc, line, grounds, number, None, question)
+}
+
 /// Returns what runs show of the question with a number, from 0 on. Answers are spelled in this
 /// line. OutOfMemory where memory was refused.
 fn showed_of(
@@ -70,13 +93,7 @@ fn showed_of(
         sample.now.watched.ends sample.now.watched.answers
         (failed_at sample.now.watched.failed.items number) question.now.asked) }
 {
-    let grounds = Grounds {
-        users: &script.users,
-        ends: sample.watched.ends.kinds(),
-        answers: &sample.watched.answers,
-        failed: &sample.watched.failed,
-    };
-    let verdict = verdict_on(alloc, line, grounds, number, None, question)?;
+    let verdict = verdict_of(alloc, line, script, sample, number, question)?;
     Ok(showed_by(&question.asked, verdict))
 }
 

@@ -75,8 +75,8 @@ impl Walks {
     }
 }
 
-/// Draws runs of all scripts of users, and says how they replay; then writes one, and reports on many
-/// of two scripts.
+/// Draws runs of all scripts of users, and says how they replay; then writes one, and reports on
+/// many of two scripts.
 pub fn draw_walks<W: Write>(rt: &HostRuntime, to: &mut W) -> Result<(), ExploreFault> {
     let mut walks = Walks {
         count: 0,

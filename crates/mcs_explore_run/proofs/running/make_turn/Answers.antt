@@ -2,7 +2,7 @@ use Rattle.std.proofs.Common.{Option, IfNone, IfSome, Some, ◌≡◌, subst}
 use Rattle.mcs_types.specs.declared.entry.Answer.{Answer}
 use Rattle.mcs_explore_walk.specs.Walks.{HasNoTurn, last_answer}
 use Rattle.mcs_explore_orders.specs.Trails.{Leads}
-use Rattle.mcs_explore_run.proofs.Showing.{on-ok, sees-turn}
+use Rattle.mcs_explore_run.proofs.Sights.{on-ok, sees-turn}
 use Rattle.mcs_explore_run.proofs.running.make_turn.Goals as goal
 
 pub unreachable-requires : goal.unreachable-requires

@@ -1,4 +1,4 @@
-use Rattle.mcs_explore_run.proofs.Showing.{on-ok, sees-state}
+use Rattle.mcs_explore_run.proofs.Sights.{on-ok, sees-state}
 use Rattle.mcs_explore_run.proofs.running.show_state.Goals as goal
 
 pub returns-clause-aim : goal.returns-clause-aim

@@ -5,9 +5,8 @@ use Rattle.mcs_explore_run.specs.Samples.{AreOfRuns}
 use Rattle.mcs_explore_run.proofs.sampling.draw_runs.Given as goal
 
 abbrev pub invariant-loop-number : goal.invariant-loop-number
-invariant-loop-number l = record {
-  asked : l.watched.asked.now ≡ l.script.asked.items;
-  shown : Shown;
-  are : AreOfRuns l.script.users l.script.boot shown;
-  has : HasKept l.script.users l.watched.asked.now l.watched.lives.lives shown l.watched.ends l.watched.answers l.watched.failed.items l.watched.lives.notes;
-}
+invariant-loop-number l =
+    (l.watched.asked.now ≡ l.script.asked.items)
+    × ((shown : Shown)
+    × (AreOfRuns l.script.users l.script.boot shown
+    × HasKept l.script.users l.watched.asked.now l.watched.lives.lives shown l.watched.ends l.watched.answers l.watched.failed.items l.watched.lives.notes))

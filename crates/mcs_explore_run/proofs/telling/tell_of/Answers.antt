@@ -7,7 +7,7 @@ use Rattle.mcs_explore_run.proofs.Failing.{failing}
 use Rattle.mcs_explore_run.proofs.telling.tell_of.Goals as goal
 
 pub returns : goal.returns
-returns c = λ is.
+returns g c = λ is.
     let r = c.in_ok-report.report in
     let script = c.args.script.now in
     let w = r.sample.watched in
