@@ -27,7 +27,8 @@ use Rattle.mcs_explore_report.specs.Judged.{HasFailed, IsJudged, IsShownBy, IsSt
 use Rattle.mcs_explore_report.specs.Judging.{fails}
 use Rattle.mcs_explore_report.specs.Standings.{standings}
 use Rattle.mcs_explore_report.specs.Verdicts.{IsAlways, IsFoundIn, IsSearched, IsWithout, answers_of, failed_at, lacks}
-use Rattle.mcs_explore_report.proofs.Lists.{at-within, within-at}
+use Rattle.std.proofs.lemmas.Option.{slice_get_within}
+use Rattle.mcs_explore_run.proofs.Places.{within-at}
 use Rattle.mcs_explore_run.specs.Samples.{HasShownFailure, IsKeptOfRuns, IsShownToFail}
 
 -- one of a list is not so
@@ -122,7 +123,7 @@ module _ (s : UserScript) (kinds : List Kind) (tables : Tables) (failed : List (
   failed-run i q at None is some = absurd cc
   failed-run i q at (Some seen) is some =
       let long = of.kept.judged.long in
-      let within = at-within s.asked.items i q at in
+      let within = slice_get_within s.asked.items i q at in
       let kept = within-at failed i (omega (arith, within, long)) in
       let same : kept.0 ≡ Some seen = sym (ap (λ (o : Option (Option Sighting)). elim o [ None ↦ None | Some g ↦ g ]) kept.1) ∙ is in
       let it : HasFailed s.users q.asked of.shown seen = of.kept.judged.each i q (Some seen) at (kept.1 ∙ ap (λ (o : Option Sighting). Some o) same) in

@@ -2,4 +2,5 @@ mod Draws
 mod Failing
 mod Judging
 mod Lengths
+mod Places
 mod Sights
