@@ -111,13 +111,13 @@ module _ (s : UserScript) (kinds : List Kind) (tables : Tables) (failed : List (
 
   -- a failure that is kept came in a run
   failed-by : (q : Asked) (place : ℕ) (turn : Option Turn) (h : Going) → IsShownBy of.shown place turn h → fails s.users q turn h ≡ true → FailsInRun s.users s.boot q
-  failed-by q place None h it no =
+  failed-by q place None h it lacks =
       let run = of.are.states it.number it.sight it.at in
-      record { turns = run.turns; state = it.sight.going; run = run.run; turn = None; going = h; is = it.going; fails = no }
-  failed-by q place (Some t) h it no =
+      record { turns = run.turns; state = it.sight.going; run = run.run; turn = None; going = h; is = it.going; fails = lacks }
+  failed-by q place (Some t) h it lacks =
       let run = of.are.turns it.number it.made it.at in
       let turned = subst (λ (u : Turn). Leads s.users u run.state it.made.going) it.turn run.turn.leads in
-      record { turns = run.turns; state = run.state; run = run.run; turn = Some t; going = h; is = subst (λ (x : Going). Leads s.users t run.state x) it.going turned; fails = no }
+      record { turns = run.turns; state = run.state; run = run.run; turn = Some t; going = h; is = subst (λ (x : Going). Leads s.users t run.state x) it.going turned; fails = lacks }
 
   failed-run : (i : ℕ) (q : AskedLine) → slice_get s.asked.items i ≡ Some q → (f : Option Sighting) → failed_at failed i ≡ f → is_some f ≡ true → FailsInRun s.users s.boot q.asked
   failed-run i q at None is some = absurd cc
@@ -133,7 +133,7 @@ module _ (s : UserScript) (kinds : List Kind) (tables : Tables) (failed : List (
   seen-is f v is some = sym (ap (λ (w : Verdict). is_some w.seen) is) ∙ some
 
   never-seen : {B : Type 0} (b : Bool) (v : Verdict) → v ≡ record { holds = b; seen = None } → is_some v.seen ≡ true → B
-  never-seen b v is some = let no : false ≡ true = sym (ap (λ (w : Verdict). is_some w.seen) is) ∙ some in absurd cc
+  never-seen b v is some = let lacks : false ≡ true = sym (ap (λ (w : Verdict). is_some w.seen) is) ∙ some in absurd cc
 
   answer-fails : (e : Event) (pattern : List ℕ) (o : Option Sighting) → is_some o ≡ true → IsAlways (answers_of s.users tables e) pattern kinds e o → SomeAnswerIs s.users s.boot e pattern false ⊎ SomeEndLacks s.users s.boot e
   answer-fails e pattern None some always = absurd cc
@@ -145,7 +145,7 @@ module _ (s : UserScript) (kinds : List Kind) (tables : Tables) (failed : List (
   said-fails e pattern (Some seen) some it = said-once e pattern false seen it
 
   once-holds : {B : Type 0} (v : Verdict) → v.holds ≡ is_some v.seen → v.holds ≡ false → is_some v.seen ≡ true → B
-  once-holds v by no some = let both : false ≡ true = sym no ∙ (by ∙ some) in absurd cc
+  once-holds v by lacks some = let both : false ≡ true = sym lacks ∙ (by ∙ some) in absurd cc
 
   question-fails : (i : ℕ) (q : AskedLine) → slice_get s.asked.items i ≡ Some q → (a : Asked) → q.asked ≡ a → IsShownToFail s.users kinds tables (failed_at failed i) a → FailsInRuns s a
   question-fails i q at (asked.Idle thread entries) same it = never-seen true it.verdict it.is it.seen
@@ -164,8 +164,8 @@ module _ (s : UserScript) (kinds : List Kind) (tables : Tables) (failed : List (
   -- a script fails where something that is kept of runs shows it
   pub failing : (any : Bool) → (any ≡ true → HasShownFailure s.users s.asked.items kinds tables failed) → (any || not (list_all (λ (k : Kind). are_idle s.asked.items k.standing) kinds)) ≡ true → IsFailing s
   failing true shown is = inr (inl (one-fails (shown refl)))
-  failing false shown is = inl (bad-end (no-all (list_all (λ (k : Kind). are_idle s.asked.items k.standing) kinds) is))
+  failing false shown is = inl (bad-end (lacks-all (list_all (λ (k : Kind). are_idle s.asked.items k.standing) kinds) is))
     where
-      no-all : (b : Bool) → not b ≡ true → b ≡ false
-      no-all true h = absurd cc
-      no-all false h = refl
+      lacks-all : (b : Bool) → not b ≡ true → b ≡ false
+      lacks-all true h = absurd cc
+      lacks-all false h = refl
