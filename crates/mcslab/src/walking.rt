@@ -1,5 +1,5 @@
 //! Runs of the users of a script that are drawn by chance, as the command line asks for them.
-ghost use Rattle.std.specs.Prelude.{◌≡◌, IfOk};
+ghost use Rattle.std.specs.Prelude.{◌≡◌, IfOk, true};
 ghost use Rattle.mcs_explore_run.specs.Samples.{HasReadFailing};
 
 use crate::command_line::with;
