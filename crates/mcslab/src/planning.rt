@@ -84,7 +84,11 @@ fn first_of(loaded: &Loaded, boot: usize) -> Option<u64> {
 
 /// Returns a plan that was loaded, and its script: one of users has each question in the line in
 /// which the plan has it.
-fn with_script<'a>(alloc: Global, loaded: Loaded, plan: &'a [u8]) -> Result<Planned<'a>, AllocError> {
+fn with_script<'a>(
+    alloc: Global,
+    loaded: Loaded,
+    plan: &'a [u8],
+) -> Result<Planned<'a>, AllocError> {
     let boot = boot_of(&loaded.compiled);
     let first = first_of(&loaded, boot);
     let text = text_of(alloc, &loaded.compiled)?;

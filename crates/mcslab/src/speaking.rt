@@ -193,11 +193,7 @@ fn step_text(alloc: Global, script: &Script, line: &[u8]) -> Result<String, Allo
 }
 
 /// Returns of each line of a script how the plan tells its step; an empty text where it is none.
-pub fn step_texts(
-    alloc: Global,
-    script: &Script,
-    text: &[u8],
-) -> Result<Vec<String>, AllocError> {
+pub fn step_texts(alloc: Global, script: &Script, text: &[u8]) -> Result<Vec<String>, AllocError> {
     let mut texts = Vec::new(alloc);
     for line in text.split(|byte| *byte == b'\n') {
         texts.push(step_text(alloc, script, line)?)?;
