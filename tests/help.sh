@@ -65,7 +65,7 @@ printf '%s\n' "${COMPREPLY[@]}"
 END
     [ "$(bash complete.bash ex)" = explore ] || fails "bash: mcslab ex"
     [ "$(bash complete.bash draw --fr)" = --from ] || fails "bash: mcslab draw --fr"
-    [ "$(bash complete.bash completions z)" = zsh ] || fails "bash: mcslab completions z"
+    [ "$(bash complete.bash completions z | sort -u)" = zsh ] || fails "bash: mcslab completions z"
     [ "$(bash complete.bash check lin)" = lines ] || fails "bash: mcslab check lin"
 fi
 for shell in zsh fish; do

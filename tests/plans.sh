@@ -27,7 +27,7 @@ for plan in "$data"/gallery/*.plan "$data"/plans/*.plan; do
     "$program" draw --format mermaid --plan <"$plan" | grep -v ': .* = refused\| turned away' | cmp - "$work/picture" ||
         { echo "plans.sh: picture of $plan"; exit 1; }
     "$program" draw "$plan" | sed -n 's/^<text class="number" x="100" y="[0-9]*">\([0-9]*\)<.*/\1/p' >"$work/lines"
-    grep -nE '^ *[A-Za-z0-9._-]+ *:|^thread .*passive' "$plan" | cut -d: -f1 >"$work/steps"
+    grep -nE '^ *[A-Za-z0-9._-]+( on core [0-9]+)? *:|^thread .*passive' "$plan" | cut -d: -f1 >"$work/steps"
     [ -s "$work/lines" ] || { echo "plans.sh: no lines of $plan in its picture"; exit 1; }
     sort -u "$work/lines" | while read -r line; do
         grep -qx "$line" "$work/steps" || { echo "plans.sh: $plan has no step in line $line"; exit 1; }
