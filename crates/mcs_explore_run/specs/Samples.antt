@@ -60,7 +60,10 @@ pub record IsKeptOfRuns (users : List User) (boot : Boot) (questions : List Aske
 -- whether a run shows that a question does not hold
 abbrev pub fails : Showed → Bool
 fails (showed.Fails number) = true
-fails _ = false
+fails (showed.Came number) = false
+fails showed.CameNot = false
+fails showed.FailedNot = false
+fails showed.NotShown = false
 
 abbrev pub any_fails : List Judged → Bool
 any_fails js = list_any (λ (j : Judged). fails j.showed) js

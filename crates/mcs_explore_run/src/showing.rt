@@ -38,7 +38,10 @@ impl Showed {
     pub fn fails(self) -> bool
         ensures { result ≡ fails self }
     {
-        matches!(self, Showed::Fails(_))
+        match self {
+            Showed::Fails(_) => true,
+            Showed::Came(_) | Showed::CameNot | Showed::FailedNot | Showed::NotShown => false,
+        }
     }
 }
 

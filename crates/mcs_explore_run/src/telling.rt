@@ -18,7 +18,7 @@ use mcs_trace::Line;
 use std::alloc::Global;
 use std::io::{Read, Write};
 
-/// What is told of runs: what is kept of them, and what they show of each question.
+/// What is reported of runs: what is kept of them, and what they show of each question.
 struct Report<'a> {
     script: &'a UserScript,
     sample: Sample<'a>,

@@ -1,4 +1,4 @@
-//! What is told of a line of a plan that is refused: its fault, and what may help.
+//! The message on a line of a plan that is refused: its fault, and what may help.
 use crate::entry_forms::{form_of, missing_of};
 use mcs_lab_forms::meant_by;
 use mcs_plan_source::{
@@ -56,7 +56,7 @@ fn listed(alloc: Global, there: &str) -> Result<String, AllocError> {
     Ok(text)
 }
 
-/// Returns what is told of a name that nothing of the wanted kind has.
+/// Returns the message on a name that nothing of the wanted kind has.
 fn no_name(
     alloc: Global,
     word: &str,
@@ -68,7 +68,7 @@ fn no_name(
     format!(in alloc; "{shown} is not the name of {wanted}; there are: {there}")
 }
 
-/// Returns what is told of a capability that a thread or a space has not.
+/// Returns the message on a capability that a thread or a space has not.
 fn no_capability(
     alloc: Global,
     holder: &str,
@@ -105,7 +105,7 @@ fn lack_of(words: &[&str]) -> Option<Lack> {
     Some(Lack { form, what })
 }
 
-/// Returns what is told of a line that ends too soon.
+/// Returns the message on a line that ends too soon.
 fn missing(
     alloc: Global,
     words: Option<Vec<&str>>,
@@ -132,7 +132,7 @@ fn meant(word: &str, is_entry: bool) -> Option<&'static str> {
     }
 }
 
-/// Returns what is told of a word that begins no line.
+/// Returns the message on a word that begins no line.
 fn unknown(alloc: Global, word: &str) -> Result<String, AllocError> {
     let shown = Shown { text: word };
     match meant(word, false) {
@@ -141,7 +141,7 @@ fn unknown(alloc: Global, word: &str) -> Result<String, AllocError> {
     }
 }
 
-/// Returns what is told of a word that is not what is wanted.
+/// Returns the message on a word that is not what is wanted.
 fn not_wanted(alloc: Global, word: &str, wanted: &'static str) -> Result<String, AllocError> {
     let shown = Shown { text: word };
     if wanted == "an entry"
@@ -186,7 +186,7 @@ fn names_slots(words: Option<Vec<&str>>) -> bool {
     }
 }
 
-/// Returns what is told of a name that is given again.
+/// Returns the message on a name that is given again.
 fn twice(alloc: Global, plan: &[u8], line: u64, word: &str) -> Result<String, AllocError> {
     let shown = Shown { text: word };
     if !names_slots(words_at(alloc, plan, line))
@@ -197,7 +197,7 @@ fn twice(alloc: Global, plan: &[u8], line: u64, word: &str) -> Result<String, Al
     format!(in alloc; "{shown} is named twice")
 }
 
-/// Returns what is told of a line of a plan that is refused.
+/// Returns the message on a line of a plan that is refused.
 pub fn told_of(alloc: Global, plan: &[u8], fault: &PlanFault) -> Result<String, AllocError> {
     let line = fault.line;
     match &fault.why {

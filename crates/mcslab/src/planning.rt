@@ -1,5 +1,5 @@
-//! What is asked of a plan: it is compiled in memory, and the command is done with its script. What
-//! is told has the plan's lines and names.
+//! What is asked of a plan: it is compiled in memory, and the command is done with its script. The
+//! report has the plan's lines and names.
 use crate::advice::told_of;
 use crate::command_line::{Command, Request};
 use crate::drawing::{Drawn, Said, draw};

@@ -119,7 +119,7 @@ impl<'a> Retold<'a> {
         }
     }
 
-    /// Adds what is told of a step of the script, with which it begins.
+    /// Adds the report on a step of the script, which begins with the step.
     fn add_told(
         &self,
         alloc: Global,

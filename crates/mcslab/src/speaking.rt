@@ -1,4 +1,4 @@
-//! What is told of the script that a plan became, by its names: `fs: recv fs.ep fs.reply` for
+//! Texts of the script that a plan became, by the plan's names: `fs: recv fs.ep fs.reply` for
 //! `0 t3 recv 1 2`, and `fs.ep.recv` for `e1.recv (fs.ep)`.
 use mcs_lab_check::object_of;
 use mcs_lab_forms::{Fields, LooksUp, form_of, number_of};
@@ -7,7 +7,7 @@ use mcs_text::Words;
 use std::alloc::{AllocError, Global};
 use std::str;
 
-/// From which number on numbers are told in hexadecimal.
+/// From which number on numbers are written in hexadecimal.
 const LARGE: u64 = 1 << 32;
 
 /// A thread of a script, by its place among the threads.

@@ -201,8 +201,8 @@ fn has_no_form(fault: &ExploreFault) -> bool {
 }
 
 /// Reports a fault at this line of a file, or without a line where it has none, and returns the
-/// exit status. Where the text of the line is given, the place of a flaw is marked, and of a line
-/// that fits no form is told what is odd in it, or else what may help.
+/// exit status. Where the text of the line is given, the place of a flaw is marked; for a line that
+/// fits no form the report says what is odd in it, or else what may help.
 pub fn tell_fault(
     rt: &HostRuntime,
     place: Place<'_>,
