@@ -1,5 +1,6 @@
 -- Turns respect the likeness of runs.
-use Rattle.std.specs.Prelude.{ℕ, suc, ◌≡◌, ◌≤◌, ◌<◌, ◌⊎◌, Bool, true, false, length, List, Option, Some, None, slice_get}
+use Rattle.std.specs.Prelude.{ℕ, suc, ◌≡◌, ◌≤◌, ◌<◌, ◌⊎◌, Bool, true, false, length, List, Some, slice_get}
+use Rattle.std.specs.List.{Contains}
 use Rattle.std.proofs.Common.{refl, ap, sym, ◌∙◌, subst, inl, inr}
 use Rattle.mcs_types.specs.declared.id.ObjId.{ObjId}
 use Rattle.mcs_types.specs.declared.id.CoreId.{CoreId}
@@ -8,15 +9,17 @@ use Rattle.mcs_types.specs.declared.entry.Entry.{Entry}
 use Rattle.mcs_types.specs.declared.entry.Step.{Step}
 use Rattle.mcs_book.specs.Boots.{Boot, IsFaultless}
 use Rattle.mcs_book.specs.History.{IsLegal, log_of, line_for}
-use Rattle.mcs_book.specs.Picking.{GoesBefore}
+use Rattle.mcs_book.specs.Logs.{Log}
 use Rattle.mcs_book.specs.Statuses.{may_enter}
 use Rattle.mcs_book.specs.Threads.{prio_of}
 use Rattle.mcs_state.proofs.Picking.{entrant-there}
 use Rattle.mcs_turns.specs.declared.position.Position.{Position}
 use Rattle.mcs_turns.specs.declared.position.Pick.{Pick}
+use Rattle.mcs_turns.specs.declared.position.Schedule.{Schedule}
+use Rattle.mcs_turns.specs.declared.position.Schedule.TheVariants as schedule
 use Rattle.mcs_turns.specs.declared.reached.Reached.{Reached}
-use Rattle.mcs_turns.specs.Due.{choices, due_by}
-use Rattle.mcs_turns.specs.Turns.{User, Going, CanGive, IsBest, IsPickOf, ArePicks, IsStale, IsTurn, Follows, IsOver, AreInRange, all_told, current, outcome, behind, entered, given, put_at, saved_at}
+use Rattle.mcs_turns.specs.Due.{choices, due_by, picks_at}
+use Rattle.mcs_turns.specs.Turns.{User, Going, CanGive, CanBePicked, MayPrecede, ArePicksOf, ArePicks, IsStale, IsTurn, Follows, IsOver, AreInRange, all_told, current, outcome, behind, entered, given, put_at, saved_at}
 use Rattle.mcs_turns.specs.Mail.{reached_from}
 use Rattle.mcs_turns.proofs.Choices.{IsOneOf, choice-in, choice-out, stale-same}
 use Rattle.mcs_turns.proofs.RunLaws.{run-legal, run-long}
@@ -32,6 +35,15 @@ use Rattle.mcs_explore_equivalence.proofs.Likenesses.{by-likeness}
 use Rattle.mcs_explore_equivalence.proofs.Mail.{mail-same}
 use Rattle.mcs_explore_search.specs.Closure.{IsLikeness}
 use Rattle.mcs_explore_equivalence.specs.Runs.{IsReached, AreClose, AreAlike, AreSameTurns, IsSameTurn, SameNewest}
+
+-- threads of the same priorities precede each other by the same schedule
+precede-same : (by : Schedule) (R S : Log) (t u : ObjId) → prio_of R t ≡ prio_of S t → prio_of R u ≡ prio_of S u → MayPrecede by R t u → MayPrecede by S t u
+precede-same schedule.Serial R S t u e f b = record {
+  priority = subst (λ n. n ≤ prio_of S t) f (subst (λ n. prio_of R u ≤ n) e b.priority);
+  serial = λ same. b.serial (f ∙ same ∙ sym e);
+}
+precede-same schedule.Equal R S t u e f b = subst (λ n. n ≤ prio_of S t) f (subst (λ n. prio_of R u ≤ n) e b)
+precede-same schedule.Any R S t u e f b = tt
 
 module _ (numbered : Bool) (users : List User) (boot : Boot) (g h : Going) (a : AreClose numbered users boot g h) where
   logs : AlikeButNumbers (log_of g.book) (log_of h.book)
@@ -56,31 +68,42 @@ module _ (numbered : Bool) (users : List User) (boot : Boot) (g h : Going) (a : 
   rank : (core : CoreId) (t : ObjId) → may_enter (log_of g.book) core t ≡ true → prio_of (log_of g.book) t ≡ prio_of (log_of h.book) t
   rank core t e = logs.prios t (entrant-there (log_of g.book) core t e)
 
-  before-there : (core : CoreId) (t u : ObjId) → may_enter (log_of g.book) core t ≡ true → may_enter (log_of g.book) core u ≡ true → GoesBefore (log_of g.book) t u → GoesBefore (log_of h.book) t u
-  before-there core t u e f b = record {
-    priority = subst (λ n. n ≤ prio_of (log_of h.book) t) (rank core u f) (subst (λ n. prio_of (log_of g.book) u ≤ n) (rank core t e) b.priority);
-    serial = λ same. b.serial (rank core u f ∙ same ∙ sym (rank core t e));
-  }
+  rank-back : (core : CoreId) (t : ObjId) → may_enter (log_of h.book) core t ≡ true → prio_of (log_of h.book) t ≡ prio_of (log_of g.book) t
+  rank-back core t e = sym (rank core t (may_enter-same (log_of g.book) (log_of h.book) logs core t ∙ e))
 
-  best-there : (core : CoreId) (k : Pick) → IsBest users g core k → IsBest users h core k
-  best-there core k b = record {
+  picked-there : (core : CoreId) (k : Pick) → CanBePicked users g core k → CanBePicked users h core k
+  picked-there core k b = record {
     user = b.user;
     place = b.place;
     can = can-there core k.user b.user b.place b.can;
     number = b.number ∙ ap (λ s. due_by s (current b.user b.place)) (status-same (log_of g.book) (log_of h.book) logs b.user.thread);
     best = λ i v q c.
         let d : CanGive users g core i v q = can-back core i v q c in
-        before-there core b.user.thread v.thread b.can.enters d.enters (b.best i v q d);
+        precede-same b.user.schedule (log_of g.book) (log_of h.book) b.user.thread v.thread (rank core b.user.thread b.can.enters) (rank core v.thread d.enters) (b.best i v q d);
   }
 
-  pub pick-there : (core : CoreId) (k : Option Pick) → IsPickOf users g core k → IsPickOf users h core k
-  pick-there core None none = λ i u p c. none i u p (can-back core i u p c)
-  pick-there core (Some k) best = best-there core k best
+  picked-back : (core : CoreId) (k : Pick) → CanBePicked users h core k → CanBePicked users g core k
+  picked-back core k b = record {
+    user = b.user;
+    place = b.place;
+    can = can-back core k.user b.user b.place b.can;
+    number = b.number ∙ ap (λ s. due_by s (current b.user b.place)) (sym (status-same (log_of g.book) (log_of h.book) logs b.user.thread));
+    best = λ i v q c.
+        let d : CanGive users h core i v q = can-there core i v q c in
+        precede-same b.user.schedule (log_of h.book) (log_of g.book) b.user.thread v.thread (rank-back core b.user.thread b.can.enters) (rank-back core v.thread d.enters) (b.best i v q d);
+  }
+
+  pub pick-there : (core : CoreId) (ks : List Pick) → ArePicksOf users g core ks → ArePicksOf users h core ks
+  pick-there core ks are = record {
+    picked = λ k c. picked-there core k (are.picked k c);
+    all = λ k can. are.all k (picked-back core k can);
+    ascending = are.ascending;
+  }
 
   cores : g.book.boot.cores ≡ h.book.boot.cores
   cores = ap (λ (b : Boot). b.cores) ((run-long users boot a.left.turns g a.left.run).kept ∙ sym (run-long users boot a.right.turns h a.right.run).kept)
 
-  pub picks-there : (picks : List (Option Pick)) → ArePicks users g picks → ArePicks users h picks
+  pub picks-there : (picks : List (List Pick)) → ArePicks users g picks → ArePicks users h picks
   picks-there picks ps = record {
     cores = ps.cores ∙ cores;
     each = λ core k at. pick-there core k (ps.each core k at);
@@ -104,11 +127,11 @@ module _ (numbered : Bool) (users : List User) (boot : Boot) (g h : Going) (a : 
       c : AreClose numbered users boot g h
       c = a.close
 
-      go : (slice_get turn.picks core.0 ≡ Some (Some k)) ⊎ IsStale g core k → (slice_get turn.picks core.0 ≡ Some (Some k)) ⊎ IsStale h core k
+      go : Contains (picks_at turn.picks core.0) k ⊎ IsStale g core k → Contains (picks_at turn.picks core.0) k ⊎ IsStale h core k
       go (inl own) = inl own
       go (inr old) = in-other (choice-out turn.picks h.stale core.0 k (subst (λ cs. IsOneOf cs core.0 k) (a.choices turn.picks turn.are_picks) (choice-in turn.picks g.stale core.0 k (old.picks, (old.stale, old.among)))))
         where
-          in-other : (slice_get turn.picks core.0 ≡ Some (Some k)) ⊎ IsOneOf h.stale core.0 k → (slice_get turn.picks core.0 ≡ Some (Some k)) ⊎ IsStale h core k
+          in-other : Contains (picks_at turn.picks core.0) k ⊎ IsOneOf h.stale core.0 k → Contains (picks_at turn.picks core.0) k ⊎ IsStale h core k
           in-other (inl own) = inl own
           in-other (inr (js, (at, among))) = inr (record { picks = js; stale = at; among = among })
 

@@ -1,5 +1,5 @@
 -- Runs that no later turn tells apart (own).
-use Rattle.std.specs.Prelude.{ℕ, ◌≡◌, Bool, List, ◌∷◌, Option}
+use Rattle.std.specs.Prelude.{ℕ, ◌≡◌, Bool, List, ◌∷◌}
 use Rattle.mcs_types.specs.declared.id.CoreId.{CoreId}
 use Rattle.mcs_book.specs.Boots.{Boot}
 use Rattle.mcs_book.specs.History.{Line, Book, log_of}
@@ -23,10 +23,10 @@ pub record AreClose (numbered : Bool) (users : List User) (boot : Boot) (g h : G
   pub logs : AlikeBy numbered (log_of g.book) (log_of h.book)
   pub places : g.places ≡ h.places
 
--- and each core may enter the same in both: its pick is as good as a stale one
+-- and each core may enter the same in both: its picks are as good as stale ones
 pub record AreAlike (numbered : Bool) (users : List User) (boot : Boot) (g h : Going) : Type 0 where
   pub close : AreClose numbered users boot g h
-  pub choices : (picks : List (Option Pick)) → ArePicks users g picks → choices picks g.stale ≡ choices picks h.stale
+  pub choices : (picks : List (List Pick)) → ArePicks users g picks → choices picks g.stale ≡ choices picks h.stale
 
 -- the newest lines of two books have the same answer, and the same records but for the numbers of
 -- messages

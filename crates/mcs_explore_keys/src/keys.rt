@@ -7,10 +7,9 @@ ghost use Rattle.mcs_explore_rows.specs.Rows.{IsKey, NameRows};
 use crate::names::{Counts, Names};
 use crate::rows::{put_object, put_queue, put_slots, put_stale, put_thread};
 use mcs_explore_rows::{Key, Met, Numbers, Row, exact_numbers, key_of};
-use mcs_explore_walk::{OrdersFault, Users, Walk, picked};
+use mcs_explore_walk::{OrdersFault, Picks, Users, Walk, picked};
 use mcs_kernel::{Boot, Kernel};
 use mcs_queues::Lines;
-use mcs_turns::Pick;
 use mcs_types::{CoreId, Kind, ObjId};
 use std::alloc::Global;
 use std::marker::Model;
@@ -169,17 +168,17 @@ impl Keys {
         Ok(())
     }
 
-    /// Puts what each core may enter besides its pick.
+    /// Puts what each core may enter besides its picks.
     fn put_all_stale<L: Lines>(
         &self,
         row: &mut Row,
         walk: &Walk<L>,
-        picks: &[Option<Pick>],
+        picks: &[Picks],
     ) -> Result<(), OrdersFault> {
         row.clear();
         for core in 0..walk.kernel().book().cores() {
-            let pick = picked(picks, core as usize);
-            put_stale(row, walk, CoreId(core), pick)?;
+            let picks = picked(picks, core as usize);
+            put_stale(row, walk, CoreId(core), picks)?;
         }
         Ok(())
     }
@@ -189,7 +188,7 @@ impl Keys {
         &mut self,
         users: &Users,
         walk: &Walk<L>,
-        picks: &[Option<Pick>],
+        picks: &[Picks],
     ) -> Result<Numbers, OrdersFault>
         ensures kept { Keeps self.old.met self.new.met }
         ensures mode { self.new.is_exact ≡ self.old.is_exact }
@@ -222,7 +221,7 @@ impl Keys {
         &mut self,
         users: &Users,
         walk: &Walk<L>,
-        picks: &[Option<Pick>],
+        picks: &[Picks],
     ) -> Result<Numbers, OrdersFault>
         requires { ArePicks users.now walk.now picks.now }
         ensures exact { self.old.is_exact ≡ true
@@ -251,7 +250,7 @@ impl Keys {
         &mut self,
         users: &Users,
         walk: &Walk<L>,
-        picks: &[Option<Pick>],
+        picks: &[Picks],
     ) -> Result<Key, OrdersFault>
         requires { ArePicks users.now walk.now picks.now }
         ensures exact { self.old.is_exact ≡ true

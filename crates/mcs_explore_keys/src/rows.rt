@@ -253,22 +253,18 @@ pub fn put_slots<L: Lines>(
     Ok(())
 }
 
-/// Puts what a core may enter besides its pick.
+/// Puts what a core may enter besides its picks.
 pub fn put_stale<L: Lines>(
     row: &mut Row,
     walk: &Walk<L>,
     core: CoreId,
-    pick: Option<Pick>,
+    picks: &[Pick],
 ) -> Result<(), AllocError> {
     let Some(stale) = walk.stale(core) else {
         return Ok(());
     };
     for stale in stale.as_slice() {
-        let is_picked = match pick {
-            Some(pick) => pick.is_same(*stale),
-            None => false,
-        };
-        if !is_picked {
+        if !picks.iter().any(|pick| pick.is_same(*stale)) {
             row.push(core.0 as u64)?;
             row.push(stale.user as u64)?;
             row.push(stale.number as u64)?;

@@ -5,7 +5,7 @@ use Rattle.std.specs.List.{Contains}
 use Rattle.std.proofs.Common.{refl, sym, ap, ◌∙◌, subst, arith, inl, inr}
 use Rattle.std.proofs.lemmas.List.Elements.{Contains-append_cases}
 use mathlib.Core.List.{append-nil}
-use Rattle.mcs_turns.specs.Turns.{User, Going, AreApart}
+use Rattle.mcs_turns.specs.Turns.{User, Going}
 use Rattle.mcs_turns.proofs.OneTurn.{one-turn}
 use Rattle.mcs_explore_search.specs.Search.{AreNexts, IsAmong, IsNext}
 use Rattle.mcs_explore_search.proofs.Places.{at-last, at-old, at-split}
@@ -59,9 +59,9 @@ module _ (e f : Exploring) (later : IsLater e f) (g : Going) where
       go l h x (inr c) = absurd (none h (subst (λ u. Leads e.users u g h) (single t l c) (leads-here l h x)))
 
   -- one that it has adds its key
-  pub one-more : AreApart e.users → (ts : List Turn) (t : Turn) (nexts : List (Turn × List ℕ)) (k : List ℕ)
+  pub one-more : (ts : List Turn) (t : Turn) (nexts : List (Turn × List ℕ)) (k : List ℕ)
       → ((h : Going) × (Leads e.users t g h × IsKeyIn f h k)) → AreNextsOf e g ts nexts → AreNextsOf f g (ts ++ t ∷ []) (nexts ++ (t, k) ∷ [])
-  one-more apart ts t nexts k some are = record {
+  one-more ts t nexts k some are = record {
     each = λ i l c at. each l c (at-split nexts (t, k) i (l, c) at);
     all = λ l h among x. go l h x (Contains-append_cases ts (t ∷ []) l among);
   }
@@ -80,7 +80,7 @@ module _ (e f : Exploring) (later : IsLater e f) (g : Going) where
       go l h x (inl c) = among-there nexts ((t, k) ∷ []) h (are.all l h c (leads-here l h x))
       go l h x (inr c) =
           let same : l ≡ t = single t l c in
-          let one : some.0 ≡ h = one-turn e.users t.core t.pick g some.0 h apart some.1.0 (subst (λ u. Leads e.users u g h) same (leads-here l h x)) in
+          let one : some.0 ≡ h = one-turn e.users t.core t.pick g some.0 h some.1.0 (subst (λ u. Leads e.users u g h) same (leads-here l h x)) in
           record { place = length nexts; label = t; key = k; at = at-last nexts (t, k); is = subst (λ u. IsKeyIn f u k) one some.1.1 }
 
 -- the numbers of a key in a place
@@ -143,11 +143,11 @@ no-turns [] e = refl
 no-turns (x ∷ xs) e = absurd (omega (arith, e))
 
 -- what was noted of all turns from the end of a path
-pub all-nexts : (users : List User) → AreApart users → (start : Going) (path : List Turn) (told now : Exploring) (g : Going) (ts : List Turn) (nexts : List (Turn × Vec ℕ Global))
+pub all-nexts : (users : List User) → (start : Going) (path : List Turn) (told now : Exploring) (g : Going) (ts : List Turn) (nexts : List (Turn × Vec ℕ Global))
     → Path (Leads users) start path g → told.users ≡ users → IsLater told now → HasEachTurn told.users g ts → AreNextsOf now g ts (numbers_of nexts)
     → (s : Going) → Path (Leads users) start path s → AreNexts (Leads now.users) (λ h (k : Vec ℕ Global). IsKeyIn now h k.items) s nexts
-all-nexts users apart start path told now g ts nexts end same_users later has are s leads =
-    subst (λ x. AreNexts (Leads now.users) (λ h (k : Vec ℕ Global). IsKeyIn now h k.items) x nexts) (path-one users apart start path g s end leads)
+all-nexts users start path told now g ts nexts end same_users later has are s leads =
+    subst (λ x. AreNexts (Leads now.users) (λ h (k : Vec ℕ Global). IsKeyIn now h k.items) x nexts) (path-one users start path g s end leads)
     (are-nexts now ts nexts g (λ l h x. has l.core l.pick h (subst (λ us. Leads us l g h) later.users x)) are)
 
 -- of no turn nothing was noted, and one turn more

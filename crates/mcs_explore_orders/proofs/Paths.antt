@@ -2,7 +2,7 @@
 use Rattle.std.specs.Prelude.{ℕ, zero, suc, ◌≡◌, ◌<◌, ◌+◌, ◌-◌, ◌++◌, List, [], ◌∷◌, Some, length, slice_get, slice_index_or, take, drop}
 use Rattle.std.proofs.Common.{refl, sym, ap, ◌∙◌, subst, arith, append_assoc, append-nil}
 use Rattle.std.proofs.lemmas.List.{take-append-drop}
-use Rattle.mcs_turns.specs.Turns.{User, Going, AreApart}
+use Rattle.mcs_turns.specs.Turns.{User, Going}
 use Rattle.mcs_turns.proofs.OneTurn.{one-turn}
 use Rattle.mcs_explore_search.specs.Paths.{Path}
 use Rattle.mcs_explore_walk.specs.declared.walk.Turn.{Turn}
@@ -36,11 +36,11 @@ trail-path users g [] i = refl
 trail-path users g (p ∷ ps) i = path-join users g p.turns (turns_of ps) p.going (last_point p.going ps) i.0 (trail-path users p.going ps i.1)
 
 -- a path leads to one point
-pub path-one : (users : List User) → AreApart users → (g : Going) (ls : List Turn) (s t : Going) → Path (Leads users) g ls s → Path (Leads users) g ls t → s ≡ t
-path-one users apart g [] s t a b = sym a ∙ b
-path-one users apart g (l ∷ ls) s t a b =
-    let same : a.0 ≡ b.0 = one-turn users l.core l.pick g a.0 b.0 apart a.1.0 b.1.0 in
-    path-one users apart b.0 ls s t (subst (λ u. Path (Leads users) u ls s) same a.1.1) b.1.1
+pub path-one : (users : List User) → (g : Going) (ls : List Turn) (s t : Going) → Path (Leads users) g ls s → Path (Leads users) g ls t → s ≡ t
+path-one users g [] s t a b = sym a ∙ b
+path-one users g (l ∷ ls) s t a b =
+    let same : a.0 ≡ b.0 = one-turn users l.core l.pick g a.0 b.0 a.1.0 b.1.0 in
+    path-one users b.0 ls s t (subst (λ u. Path (Leads users) u ls s) same a.1.1) b.1.1
 
 -- the last point is that of the last turn
 pub last-at : (g : Going) (ps : List Point) (p : Point) → slice_get ps (length ps - 1) ≡ Some p → last_point g ps ≡ p.going
@@ -91,23 +91,23 @@ goes-further path ts at n t u there here same so_far =
     ∙ ap (λ xs. take at path ++ xs) (ap (λ v. take n ts ++ v ∷ []) same ∙ sym (take-on ts n u here))
 
 -- the next turns of a path lead on from the end of a trail along it
-pub leads-on : (users : List User) → AreApart users → (g : Going) (ps : List Point) (path : List Turn) (n m : ℕ) → IsTrail users g ps → turns_of ps ≡ take n path
+pub leads-on : (users : List User) → (g : Going) (ps : List Point) (path : List Turn) (n m : ℕ) → IsTrail users g ps → turns_of ps ≡ take n path
     → ((s : Going) × Path (Leads users) g path s) → (h : Going) × Path (Leads users) (last_point g ps) (take m (drop n path)) h
-leads-on users apart g ps path n m trail along some =
+leads-on users g ps path n m trail along some =
     let whole = subst (λ ls. Path (Leads users) g ls some.0) (sym (take-append-drop n path)) some.1 in
     let first = path-parts users g (take n path) (drop n path) some.0 whole in
-    let here : first.0 ≡ last_point g ps = path-one users apart g (take n path) first.0 (last_point g ps) first.1.0 (subst (λ ts. Path (Leads users) g ts (last_point g ps)) along (trail-path users g ps trail)) in
+    let here : first.0 ≡ last_point g ps = path-one users g (take n path) first.0 (last_point g ps) first.1.0 (subst (λ ts. Path (Leads users) g ts (last_point g ps)) along (trail-path users g ps trail)) in
     let rest = subst (λ ls. Path (Leads users) first.0 ls some.0) (sym (take-append-drop m (drop n path))) first.1.1 in
     let next = path-parts users first.0 (take m (drop n path)) (drop m (drop n path)) some.0 rest in
     (next.0, subst (λ u. Path (Leads users) u (take m (drop n path)) next.0) here next.1.0)
 
 -- where the rest of a path leads from the end of a trail along its beginning, the whole leads
-pub arrives : (users : List User) → AreApart users → (g : Going) (ps : List Point) (path : List Turn) (n : ℕ) (w : Going) → IsTrail users g ps → turns_of ps ≡ take n path
+pub arrives : (users : List User) → (g : Going) (ps : List Point) (path : List Turn) (n : ℕ) (w : Going) → IsTrail users g ps → turns_of ps ≡ take n path
     → ((s : Going) × Path (Leads users) g path s) → ((h : Going) → Path (Leads users) (last_point g ps) (drop n path) h → w ≡ h) → Path (Leads users) g path w
-arrives users apart g ps path n w trail along some ends =
+arrives users g ps path n w trail along some ends =
     let whole = subst (λ ls. Path (Leads users) g ls some.0) (sym (take-append-drop n path)) some.1 in
     let first = path-parts users g (take n path) (drop n path) some.0 whole in
-    let here : first.0 ≡ last_point g ps = path-one users apart g (take n path) first.0 (last_point g ps) first.1.0 (subst (λ ts. Path (Leads users) g ts (last_point g ps)) along (trail-path users g ps trail)) in
+    let here : first.0 ≡ last_point g ps = path-one users g (take n path) first.0 (last_point g ps) first.1.0 (subst (λ ts. Path (Leads users) g ts (last_point g ps)) along (trail-path users g ps trail)) in
     subst (λ s. Path (Leads users) g path s) (sym (ends some.0 (subst (λ u. Path (Leads users) u (drop n path) some.0) here first.1.1))) some.1
 
 -- what is in a place that a list has

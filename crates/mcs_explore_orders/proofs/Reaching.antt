@@ -6,7 +6,7 @@ use Rattle.std.proofs.Common.{inl, inr, sym, subst}
 use Rattle.mcs_book.specs.Boots.{Boot}
 use Rattle.mcs_types.specs.declared.id.CoreId.{CoreId}
 use Rattle.mcs_turns.specs.declared.position.Pick.{Pick}
-use Rattle.mcs_turns.specs.Turns.{User, Going, AreApart, Follows, IsTurn}
+use Rattle.mcs_turns.specs.Turns.{User, Going, Follows, IsTurn}
 use Rattle.mcs_turns.proofs.OneTurn.{one-turn}
 use Rattle.mcs_explore_search.specs.Paths.{Path}
 use Rattle.mcs_explore_search.proofs.Paths.{path-cut}
@@ -34,11 +34,11 @@ ok-follows (Ok None) users core k g h turn = turn
 ok-follows (Err e) users core k g h turn = turn
 
 -- a turn that the rule has was made
-pub ok-leads : {A E : Type 0} (r : Result (Option A) E) (users : List User) → AreApart users → (core : CoreId) (k : Pick) (g h : Going) → IfOk r (λ o. IfSome o (λ a. IsTurn users core k g h))
+pub ok-leads : {A E : Type 0} (r : Result (Option A) E) (users : List User) → (core : CoreId) (k : Pick) (g h : Going) → IfOk r (λ o. IfSome o (λ a. IsTurn users core k g h))
     → IfOk r (λ o. IfNone o ((x : Going) → IsTurn users core k g x → ⊥)) → OnOk r ((x : Going) → IsTurn users core k g x → h ≡ x)
-ok-leads (Ok (Some a)) users apart core k g h turn none = λ x t. one-turn users core k g h x apart turn t
-ok-leads (Ok None) users apart core k g h turn none = λ x t. absurd (none x t)
-ok-leads (Err e) users apart core k g h turn none = turn
+ok-leads (Ok (Some a)) users core k g h turn none = λ x t. one-turn users core k g h x turn t
+ok-leads (Ok None) users core k g h turn none = λ x t. absurd (none x t)
+ok-leads (Err e) users core k g h turn none = turn
 
 -- one turn more of a path
 pub path-next : (users : List User) (begin : Going) (turns : List Turn) (n : ℕ) (t : Turn) (w v : Going) → slice_get turns n ≡ Some t → ((h : Going) → Leads users t w h → v ≡ h)

@@ -7,7 +7,7 @@ use Rattle.std.proofs.Common.{refl, sym, ap, ◌∙◌, subst, arith, inl, inr, 
 use Rattle.std.proofs.lemmas.List.Elements.{Contains-append_cases}
 use Rattle.mcs_types.specs.declared.entry.Answer.{Answer}
 use Rattle.mcs_book.specs.Boots.{Boot}
-use Rattle.mcs_turns.specs.Turns.{User, Going, AreApart, Follows, IsOver, beginning}
+use Rattle.mcs_turns.specs.Turns.{User, Going, Follows, IsOver, beginning}
 use Rattle.mcs_turns.proofs.OneTurn.{one-turn}
 use Rattle.mcs_explore_search.specs.Paths.{Path}
 use Rattle.mcs_explore_search.proofs.Places.{at-last, at-old, at-split, one-longer}
@@ -108,8 +108,8 @@ none-told Has a b users place g t same none = λ shown ts made has are. (
     go ts made are l h leads (inr c) = absurd (none h (subst (λ u. Leads users u g h) (single t l c) leads))
 
 -- one that it has is reported
-pub one-told : {W : Type 0} (Has : W → List User → Shown → Type 0) (a b : W) (users : List User) → AreApart users → (place : ℕ) (g : Going) (t : Turn) → IsToldTurn Has a b users place t g → TellsOn Has a b users place g t
-one-told Has a b users apart place g t told = λ shown ts made has are. (
+pub one-told : {W : Type 0} (Has : W → List User → Shown → Type 0) (a b : W) (users : List User) → (place : ℕ) (g : Going) (t : Turn) → IsToldTurn Has a b users place t g → TellsOn Has a b users place g t
+one-told Has a b users place g t told = λ shown ts made has are. (
   made ++ m ∷ [],
   (
     subst (λ (ms : List Made). Has b users (record shown { turns = ms })) (append_assoc shown.turns made (m ∷ [])) (told.sees (with_turns made shown) has),
@@ -142,7 +142,7 @@ one-told Has a b users apart place g t told = λ shown ts made has are. (
           at = at-last made m;
           place = refl;
           turn = sym same;
-          going = one-turn users t.core t.pick g told.going h apart told.is.leads (subst (λ u. Leads users u g h) same leads);
+          going = one-turn users t.core t.pick g told.going h told.is.leads (subst (λ u. Leads users u g h) same leads);
         }
 
 -- one turn more of those from a state
@@ -154,7 +154,7 @@ tells-more {W = W} Has a b c users others place g ts i t same at on tells = λ s
     let more = told shown (take i ts) r.0 r.1.0 r.1.1 in
     (more.0, (more.1.0, subst (λ us. AreToldOf users place g us more.0) (sym (take-on ts i t at)) more.1.1))
 
-module _ (users : List User) (apart : AreApart users) (start : Going) (paths : List (List Turn)) (path : List Turn) where
+module _ (users : List User) (start : Going) (paths : List (List Turn)) (path : List Turn) where
   state-more : (i : ℕ) (s : Sight) → IsStateAt users start paths i s → IsStateAt users start (paths ++ path ∷ []) i s
   state-more i s is = record { place = is.place; path = is.path; at = at-old paths (path ∷ []) i is.path is.at; leads = is.leads; over = is.over }
 
@@ -208,7 +208,7 @@ module _ (users : List User) (apart : AreApart users) (start : Going) (paths : L
       all : (i : ℕ) (p : List Turn) (u h : Going) (t : Turn) → (slice_get paths i ≡ Some p) ⊎ ((i ≡ length paths) × (p ≡ path)) → Path (Leads users) start p u → Leads users t u h → IsShown (s.turns ++ made) i t h
       all i p u h t (inl at) way step = shown-more s.turns made i t h (old.are.all i p u h t at way step)
       all i p u h t (inr e) way step =
-          let same : u ≡ g = path-one users apart start path u g (subst (λ ls. Path (Leads users) start ls u) e.1 way) leads in
+          let same : u ≡ g = path-one users start path u g (subst (λ ls. Path (Leads users) start ls u) e.1 way) leads in
           let from : Leads users t g h = subst (λ v. Leads users t v h) same step in
           subst (λ n. IsShown (s.turns ++ made) n t h) (sym (e.0 ∙ long)) (shown-behind s.turns made place t h (mine.all t h (each t.core t.pick h from) from))
 
@@ -225,14 +225,14 @@ module _ (users : List User) (apart : AreApart users) (start : Going) (paths : L
       }
 
 -- what was reported of the end of a path and of all turns from it
-pub seen-nexts : {W : Type 0} (Has : W → List User → Shown → Type 0) (a b c : W) (users : List User) → AreApart users → (boot : Boot) (path : List Turn) (told now : Exploring) (place : ℕ) (g : Going) (ts : List Turn)
+pub seen-nexts : {W : Type 0} (Has : W → List User → Shown → Type 0) (a b c : W) (users : List User) → (boot : Boot) (path : List Turn) (told now : Exploring) (place : ℕ) (g : Going) (ts : List Turn)
     → Path (Leads users) (beginning users boot) path g → told.users ≡ users → now.users ≡ users → now.boot ≡ boot
     → HasEachTurn told.users g ts → IsToldState Has a b users place g → Tells Has b c told.users place g ts
     → (paths : List (List Turn)) → HasSeenAll Has a users (beginning users boot) paths → length paths ≡ place → HasSeenAll Has c now.users (beginning now.users now.boot) (paths ++ path ∷ [])
-seen-nexts Has a b c users apart boot path told now place g ts end same_users now_users now_boot each state tells paths old long =
+seen-nexts Has a b c users boot path told now place g ts end same_users now_users now_boot each state tells paths old long =
     let has : HasEachTurn users g ts = subst (λ us. HasEachTurn us g ts) same_users each in
     let all : Tells Has b c users place g ts = subst (λ us. Tells Has b c us place g ts) same_users tells in
-    let seen = shown-on users apart (beginning users boot) paths path Has a b c place g ts end long has state all old in
+    let seen = shown-on users (beginning users boot) paths path Has a b c place g ts end long has state all old in
     subst (λ us. HasSeenAll Has c us (beginning us now.boot) (paths ++ path ∷ [])) (sym now_users) (subst (λ bt. HasSeenAll Has c users (beginning users bt) (paths ++ path ∷ [])) (sym now_boot) seen)
 
 -- what was shown of a search that was begun

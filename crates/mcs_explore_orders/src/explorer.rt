@@ -12,10 +12,9 @@ use crate::packed::PackedTurn;
 use crate::trail::Trail;
 use mcs_explore_keys::{Key, Keys};
 use mcs_explore_search::System;
-use mcs_explore_walk::{OrdersFault, Turn, Users, Walk};
+use mcs_explore_walk::{OrdersFault, Picks, Turn, Users, Walk};
 use mcs_kernel::Boot;
 use mcs_queues::PlainLines;
-use mcs_turns::Pick;
 use mcs_types::{Answer, OutOfMemory};
 use std::alloc::Global;
 use std::marker::Model;
@@ -172,7 +171,7 @@ impl<'a, W: Watch> Explorer<'a, W> {
         &mut self,
         place: usize,
         walk: &Walk<PlainLines>,
-        picks: &[Option<Pick>],
+        picks: &[Picks],
         turns: &[Turn],
     ) -> Result<(), OrdersFault>
         requires picks { ArePicks self.old.search.users walk.now picks.now }
@@ -194,7 +193,7 @@ impl<'a, W: Watch> Explorer<'a, W> {
         alloc: Global,
         place: usize,
         turn: Turn,
-        picks: &[Option<Pick>],
+        picks: &[Picks],
         walk: Box<Walk<PlainLines>>,
     ) -> Result<Option<Key>, OrdersFault>
         requires { ArePicks self.old.search.users walk.value picks.now }
@@ -230,7 +229,7 @@ impl<'a, W: Watch> Explorer<'a, W> {
         alloc: Global,
         place: usize,
         turn: Turn,
-        picks: &[Option<Pick>],
+        picks: &[Picks],
         walk: Box<Walk<PlainLines>>,
         nexts: &mut Vec<(PackedTurn, Key)>,
     ) -> Result<(), OrdersFault>
@@ -245,7 +244,6 @@ impl<'a, W: Watch> Explorer<'a, W> {
             (counting self.old) (counting self.new)
             self.old.search.users place walk.value turn) }
     {
-        self.users.are_apart();
         if let Some(key) = self.behind(alloc, place, turn, picks, walk)? {
             let label = PackedTurn::of(turn)?;
             push(nexts, (label, key))?;
@@ -278,7 +276,7 @@ impl<'a, W: Watch> Explorer<'a, W> {
         alloc: Global,
         place: usize,
         turn: Turn,
-        picks: &[Option<Pick>],
+        picks: &[Picks],
         walk: &Walk<PlainLines>,
         nexts: &mut Vec<(PackedTurn, Key)>,
     ) -> Result<(), OrdersFault>
@@ -302,7 +300,7 @@ impl<'a, W: Watch> Explorer<'a, W> {
         alloc: Global,
         place: usize,
         turns: &[Turn],
-        picks: &[Option<Pick>],
+        picks: &[Picks],
         walk: &Walk<PlainLines>,
         nexts: &mut Vec<(PackedTurn, Key)>,
     ) -> Result<(), OrdersFault>
@@ -329,7 +327,7 @@ impl<'a, W: Watch> Explorer<'a, W> {
         alloc: Global,
         place: usize,
         turns: &[Turn],
-        picks: &[Option<Pick>],
+        picks: &[Picks],
         walk: Box<Walk<PlainLines>>,
     ) -> Result<Vec<(PackedTurn, Key)>, OrdersFault>
         requires { ArePicks self.old.search.users walk.value picks.now }
@@ -405,7 +403,6 @@ impl<'a, W: Watch> System for Explorer<'a, W> {
         path: &[PackedTurn],
         next: &[PackedTurn],
     ) -> Result<Vec<(PackedTurn, Key)>, OrdersFault> {
-        self.users.are_apart();
         let walk = self.trail.walk_to(alloc, self.users, path, next)?;
         let picks = walk.picks(alloc, self.users)?;
         let turns = walk.turns(alloc, self.users, &picks)?;

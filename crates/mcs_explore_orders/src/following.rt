@@ -22,7 +22,6 @@ fn step<L: Lines>(
     ensures moves { OnOk result (Moves users.now walk.old walk.new) }
     ensures leads { OnOk result ((h : Going) → Leads users.now turn walk.old h → walk.new ≡ h) }
 {
-    users.are_apart();
     let picks = walk.picks(alloc, users)?;
     walk.turn(alloc, users, &picks, turn)
 }

@@ -276,7 +276,6 @@ impl Trail {
         ensures within { IfOk result (λ n. n ≤ length path.now) }
         ensures turns { IfOk result (λ n. turns_of self.new.points ≡ take n path.now) }
     {
-        users.are_apart();
         let (stages, turns) = self.common(path);
         self.keep(stages);
         let last = most.min(path.len()).saturating_sub(STRIDE - 1);
@@ -304,7 +303,6 @@ impl Trail {
         ensures trail { IsTrail users.now self.new.start self.new.points }
         ensures walk { IfOk result (λ w. Path (Leads users.now) self.old.start path.now w.value) }
     {
-        users.are_apart();
         let turns = unpacked(alloc, path)?;
         let shared = shared(&turns, next);
         let at = self.go_along(alloc, users, &turns, shared)?;

@@ -14,6 +14,7 @@ contain es n = nat_le es.first n && nat_le n es.last
 abbrev pub is_question : Asked → Bool
 is_question (asked.Idle thread entries) = false
 is_question (asked.Again event) = false
+is_question (asked.Ruled rule) = false
 is_question _ = true
 
 -- whether it asks that a user never gets stuck

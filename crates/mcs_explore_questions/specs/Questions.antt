@@ -2,11 +2,15 @@
 use Rattle.std.specs.Prelude.{ℕ, zero, suc, ◌≡◌, ◌+◌, ◌-◌, ◌==◌, ◌&&◌, ◌||◌, ◌++◌, Bool, true, false, not, cond, nat_lt, nat_le, length, take, drop, List, [], ◌∷◌, Option, Some, None, bytes_eq, codes, is_some, if◌then◌else◌}
 use Rattle.mcs_types.specs.declared.id.ObjId.{ObjId}
 use Rattle.mcs_turns.specs.Turns.{User, is_program}
+use Rattle.mcs_turns.specs.declared.position.Schedule.{Schedule}
+use Rattle.mcs_turns.specs.declared.position.Schedule.TheVariants as schedule
 use Rattle.mcs_lab_forms.specs.Numbers.{number_of}
 use Rattle.mcs_explore_questions.specs.declared.asking.Asked.{Asked}
 use Rattle.mcs_explore_questions.specs.declared.asking.Asked.TheVariants as asked
 use Rattle.mcs_explore_questions.specs.declared.asking.Entries.{Entries}
 use Rattle.mcs_explore_questions.specs.declared.asking.Event.{Event}
+use Rattle.mcs_explore_questions.specs.declared.asking.Rule.{Rule}
+use Rattle.mcs_explore_questions.specs.declared.asking.Rule.TheVariants as rule
 use Rattle.mcs_explore_questions.specs.declared.asking.Span.{Span}
 use Rattle.mcs_explore_questions.specs.declared.asking.Until.{Until}
 use Rattle.mcs_explore_questions.specs.declared.asking.Until.TheVariants as until
@@ -29,6 +33,7 @@ pub data Said : Type 0 where
   apart : List Span → Said
   before : Event → Event → Said
   again : Event → Said
+  ruled : Rule → Said
 
 abbrev pub said_of : Asked → Said
 said_of (asked.Idle thread entries) = idle thread entries
@@ -40,6 +45,7 @@ said_of (asked.Never pattern) = never pattern.items
 said_of (asked.Apart spans) = apart spans.items
 said_of (asked.Before first second) = before first second
 said_of (asked.Again event) = again event
+said_of (asked.Ruled rule) = ruled rule
 
 -- the user that the first word names
 unfoldable pub user_then : Scene → List (List ℕ) → Option (User × List (List ℕ))
@@ -270,6 +276,30 @@ again_asked s words = do
   end_of left
   Some (again event)
 
+-- the schedule that a word names
+abbrev pub schedule_by : List ℕ → Option Schedule
+schedule_by word =
+    if bytes_eq word (codes "serial") then Some schedule.Serial
+    else if bytes_eq word (codes "equal") then Some schedule.Equal
+    else if bytes_eq word (codes "any") then Some schedule.Any
+    else None
+
+-- `schedule equal`
+unfoldable pub schedule_asked : List (List ℕ) → Option Said
+schedule_asked words = do
+  (word, left) ← word_then words
+  by ← schedule_by word
+  end_of left
+  Some (ruled (rule.By by))
+
+-- `resumed goes on`
+unfoldable pub resumed_asked : List (List ℕ) → Option Said
+resumed_asked words = do
+  rest ← behind (codes "goes") words
+  left ← behind (codes "on") rest
+  end_of left
+  Some (ruled rule.ToldOnce)
+
 -- what a first word asks of the answers of an entry
 abbrev pub answered_asked : List ℕ → EventAnswer → Said
 answered_asked first a =
@@ -296,6 +326,8 @@ asked_by s first words =
     else if bytes_eq first (codes "never") then never_asked s words
     else if bytes_eq first (codes "before") then before_asked s words
     else if bytes_eq first (codes "again") then again_asked s words
+    else if bytes_eq first (codes "schedule") then schedule_asked words
+    else if bytes_eq first (codes "resumed") then resumed_asked words
     else None
 
 -- whether the user of a thread has a program

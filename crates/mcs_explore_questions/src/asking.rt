@@ -1,7 +1,8 @@
-//! What a script asks of all orders.
+//! What a script asks of all orders, and the rules that it sets.
 ghost use Rattle.std.specs.Prelude.{◌≡◌};
 ghost use Rattle.mcs_explore_questions.specs.Asking.{contain, excuses, is_live, is_of_waits, is_question};
 
+use mcs_turns::Schedule;
 use mcs_types::ObjId;
 
 /// The entry of a user, by its number from 1 on.
@@ -35,6 +36,16 @@ pub struct Span {
     pub from: usize,
     pub to: usize,
     pub until: Until,
+}
+
+/// A rule of all users.
+#[derive(Clone, Copy)]
+pub enum Rule {
+    /// Cores pick threads by this schedule.
+    By(Schedule),
+    /// No user gives an entry again that was answered, also where its thread was restarted before
+    /// it ran.
+    ToldOnce,
 }
 
 /// A question.
@@ -83,6 +94,10 @@ pub enum Asked {
     Again {
         event: Event,
     },
+    /// All users go by this rule.
+    Ruled {
+        rule: Rule,
+    },
 }
 
 impl Entries {
@@ -100,7 +115,7 @@ impl Asked {
         ensures { result ≡ is_question self.now }
     {
         match self {
-            Asked::Idle { .. } | Asked::Again { .. } => false,
+            Asked::Idle { .. } | Asked::Again { .. } | Asked::Ruled { .. } => false,
             Asked::Live { .. }
             | Asked::Answer { .. }
             | Asked::AnswerIf { .. }
@@ -124,7 +139,8 @@ impl Asked {
             | Asked::Never { .. }
             | Asked::Apart { .. }
             | Asked::Before { .. }
-            | Asked::Again { .. } => false,
+            | Asked::Again { .. }
+            | Asked::Ruled { .. } => false,
         }
     }
 
@@ -141,7 +157,8 @@ impl Asked {
             | Asked::Never { .. }
             | Asked::Apart { .. }
             | Asked::Before { .. }
-            | Asked::Again { .. } => false,
+            | Asked::Again { .. }
+            | Asked::Ruled { .. } => false,
         }
     }
 
@@ -158,7 +175,8 @@ impl Asked {
             | Asked::Never { .. }
             | Asked::Apart { .. }
             | Asked::Before { .. }
-            | Asked::Again { .. } => false,
+            | Asked::Again { .. }
+            | Asked::Ruled { .. } => false,
         }
     }
 }

@@ -99,6 +99,8 @@ pub enum QuestionFault {
     AgainTwice {
         thread: String,
     },
+    #[error("a line before this one sets this rule")]
+    RuleTwice,
     #[error("entry {number} of {thread} comes again: ask {instead}")]
     ComesAgain {
         thread: String,

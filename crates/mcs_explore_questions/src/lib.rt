@@ -18,7 +18,7 @@ mod reading;
 mod there;
 mod words;
 
-pub use asking::{Asked, Entries, Event, Span, Until};
+pub use asking::{Asked, Entries, Event, Rule, Span, Until};
 pub use fault::{ExploreFault, QuestionFault};
 pub use patterns::is_match;
 pub use reading::{asked_of, comes_once, goes_on_once, question_of};

@@ -2,11 +2,11 @@
 ghost use Rattle.std.specs.Prelude.{ℕ, ◌≡◌, ◌≢◌, ◌<◌, ◌≤◌, ◌∷◌, ◌++◌, [], false, true, Some, IfOk, IfErr, OnOk, OnErr, length, option_copied, option_map, bytes_eq};
 ghost use Rattle.mcs_text.specs.Reading.{words_of};
 ghost use Rattle.mcs_explore_questions.specs.Forms.{pattern_of};
-ghost use Rattle.mcs_explore_questions.specs.Questions.{AddsSpan, are_of_lists, answers_asked, behind_blank, last_of, answer_pattern, answer_then, answered_asked, and_span, apart_asked, asked_by, asks, again_asked, before_asked, begin_with_waits, bound_by, bounds_by, dots_len, entries_from, entries_of, entries_then, event_then, fits, has_dot, idle_asked, is_of_answers, is_of_list, lines_of, live_asked, never_asked, never_of, number_then, question_of, range_of, range_to, range_words, said_of, small_number, span_behind, span_from, span_of, span_then, spans_from, spans_of, user_is_program, user_then};
+ghost use Rattle.mcs_explore_questions.specs.Questions.{AddsSpan, are_of_lists, answers_asked, behind_blank, last_of, answer_pattern, answer_then, answered_asked, and_span, apart_asked, asked_by, asks, again_asked, before_asked, begin_with_waits, bound_by, bounds_by, dots_len, entries_from, entries_of, entries_then, event_then, fits, has_dot, idle_asked, is_of_answers, is_of_list, lines_of, live_asked, never_asked, never_of, number_then, question_of, range_of, range_to, range_words, resumed_asked, said_of, schedule_asked, schedule_by, small_number, span_behind, span_from, span_of, span_then, spans_from, spans_of, user_is_program, user_then};
 ghost use Rattle.mcs_explore_questions.specs.Reading.{Refuses, is_of_memory, texts, word_then};
 ghost use Rattle.mcs_explore_questions.specs.There.{labelled, scene_of, user_of};
 
-use crate::asking::{Asked, Entries, Event, Span, Until};
+use crate::asking::{Asked, Entries, Event, Rule, Span, Until};
 use crate::fault::QuestionFault;
 use crate::forms::{Lines, pattern_of};
 use crate::there::{There, id_text, list_of, no_entry};
@@ -14,12 +14,16 @@ use crate::words::{Reader, trimmed, words_of};
 use mcs_explore_programs::Word;
 use mcs_lab_forms::number_of;
 use mcs_text::Words;
+use mcs_turns::Schedule;
 use mcs_types::ObjId;
 use mcs_users::{UserList, Users};
 use std::alloc::{AllocError, Global};
 
 /// The words with which questions begin.
-const FIRSTS: &str = "idle, live, answer, answer?, some, never, before, again";
+const FIRSTS: &str = "idle, live, answer, answer?, some, never, before, again, schedule, resumed";
+
+/// The words of schedules.
+const SCHEDULES: &str = "serial, equal or any";
 
 /// A range that a word writes.
 #[derive(Clone, Copy)]
@@ -627,6 +631,50 @@ fn again(alloc: Global, there: There<'_>, words: &mut Reader<'_>) -> Result<Aske
     Ok(Asked::Again { event })
 }
 
+/// The schedule that a word names.
+fn schedule_by(word: &[u8]) -> Option<Schedule>
+    ensures { result ≡ schedule_by word.now }
+{
+    if is(word, b"serial") {
+        return Some(Schedule::Serial);
+    }
+    if is(word, b"equal") {
+        return Some(Schedule::Equal);
+    }
+    if is(word, b"any") {
+        return Some(Schedule::Any);
+    }
+    None
+}
+
+/// Reads the schedule by which cores pick threads.
+#[tactic(auto, unfolding(crate::specs::Questions::schedule_asked))]
+fn schedule(alloc: Global, words: &mut Reader<'_>) -> Result<Asked, QuestionFault>
+    ensures said { IfOk result (λ a. schedule_asked words.old ≡ Some (said_of a)) }
+    ensures told { IfErr result (Refuses (schedule_asked words.old)) }
+{
+    let word = words.need(SCHEDULES)?;
+    let Some(by) = schedule_by(word) else {
+        return Err(not(alloc, word, SCHEDULES)?);
+    };
+    words.end(alloc)?;
+    Ok(Asked::Ruled { rule: Rule::By(by) })
+}
+
+/// Reads the words after `resumed`.
+#[tactic(auto, unfolding(crate::specs::Questions::resumed_asked))]
+fn resumed(alloc: Global, words: &mut Reader<'_>) -> Result<Asked, QuestionFault>
+    ensures said { IfOk result (λ a. resumed_asked words.old ≡ Some (said_of a)) }
+    ensures told { IfErr result (Refuses (resumed_asked words.old)) }
+{
+    words.expect(alloc, "goes")?;
+    words.expect(alloc, "on")?;
+    words.end(alloc)?;
+    Ok(Asked::Ruled {
+        rule: Rule::ToldOnce,
+    })
+}
+
 /// The fault of a word with which no question begins.
 fn unknown(alloc: Global, word: &[u8]) -> Result<QuestionFault, AllocError>
     ensures { IfOk result (λ e. is_of_memory e ≡ false) }
@@ -674,6 +722,12 @@ fn asked(
     }
     if is(first, b"again") {
         return again(alloc, there, words);
+    }
+    if is(first, b"schedule") {
+        return schedule(alloc, words);
+    }
+    if is(first, b"resumed") {
+        return resumed(alloc, words);
     }
     Err(unknown(alloc, first)?)
 }
@@ -820,7 +874,8 @@ fn fits_programs(alloc: Global, users: &Users, asked: &Asked) -> Result<(), Ques
         | Asked::AnswerIf { .. }
         | Asked::Some { .. }
         | Asked::Never { .. }
-        | Asked::Apart { .. } => Ok(()),
+        | Asked::Apart { .. }
+        | Asked::Ruled { .. } => Ok(()),
     }
 }
 
@@ -852,7 +907,8 @@ pub fn comes_once(alloc: Global, users: &Users, asked: &Asked) -> Result<(), Que
         | Asked::Some { .. }
         | Asked::Never { .. }
         | Asked::Apart { .. }
-        | Asked::Again { .. } => return Ok(()),
+        | Asked::Again { .. }
+        | Asked::Ruled { .. } => return Ok(()),
     };
     match again_of(users, event.thread) {
         Some(number) if number < event.number => Err(QuestionFault::ComesAgain {

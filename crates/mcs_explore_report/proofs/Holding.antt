@@ -173,6 +173,7 @@ module _ {K : Type 0} (users : List User) (boot : Boot) (found : Entries K Turn)
   question-holds f (asked.Apart spans) it held = held (not-failed f it.verdict it.is it.holds)
   question-holds f (asked.Before first second) it held = held (not-failed f it.verdict it.is it.holds)
   question-holds f (asked.Again event) it held = tt
+  question-holds f (asked.Ruled rule) it held = tt
 
 -- what asks nothing that holds or does not
 not-asked : (users : List User) (boot : Boot) (q : Asked) → is_question q ≡ false → HoldsInRuns users boot q
@@ -185,6 +186,7 @@ not-asked users boot (asked.Never pattern) h = absurd cc
 not-asked users boot (asked.Apart spans) h = absurd cc
 not-asked users boot (asked.Before first second) h = absurd cc
 not-asked users boot (asked.Again event) h = tt
+not-asked users boot (asked.Ruled rule) h = tt
 
 -- where a question did not fail, that is what is kept of it
 failed-none : (failed : List (Option Sighting)) (i : ℕ) → i < length failed → failed_at failed i ≡ None → slice_get failed i ≡ Some None

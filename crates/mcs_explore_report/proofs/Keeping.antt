@@ -5,7 +5,7 @@ use Rattle.std.proofs.Common.{refl, ap, sym, ◌∙◌, subst, inl, inr, arith}
 use Rattle.mcs_types.specs.declared.entry.Answer.{Answer}
 use Rattle.mcs_types.specs.declared.entry.Answer.TheVariants as answer
 use Rattle.mcs_book.specs.Boots.{Boot}
-use Rattle.mcs_turns.specs.Turns.{User, Going, AreApart, IsOver, beginning}
+use Rattle.mcs_turns.specs.Turns.{User, Going, IsOver, beginning}
 use Rattle.mcs_explore_search.specs.Paths.{Path}
 use Rattle.mcs_explore_search.specs.Search.{Entries, path_of, paths_below}
 use Rattle.mcs_explore_walk.specs.declared.walk.Turn.{Turn}
@@ -123,7 +123,7 @@ one-kind : (users : List User) (q : Asked) (g h : Going) (t : Turn) → fails us
 one-kind users (asked.Apart spans) g h t in_state by_turn = absurd cc
 one-kind users _ g h t in_state by_turn = absurd cc
 
-module _ {K : Type 0} (users : List User) (apart : AreApart users) (boot : Boot) (found : Entries K Turn) (done : ℕ) (questions : List AskedLine) (ends : List Kind) (tables : Tables) (failed : List (Option Sighting)) (shown : Shown)
+module _ {K : Type 0} (users : List User) (boot : Boot) (found : Entries K Turn) (done : ℕ) (questions : List AskedLine) (ends : List Kind) (tables : Tables) (failed : List (Option Sighting)) (shown : Shown)
     (kept : IsKept users questions shown ends tables failed) (are : AreShown users (beginning users boot) (paths_below found done) shown) where
   -- a state that was shown is that in its place
   ends-found : AreEndsFound users boot found done ends
@@ -148,7 +148,7 @@ module _ {K : Type 0} (users : List User) (apart : AreApart users) (boot : Boot)
           let s = within-at shown.states place (let long = are.long in let paths = paths-long found done in omega (arith, long, paths, lt)) in
           let is = are.states place s.0 s.1 in
           let path : is.path ≡ path_of found place = some-same is.path (path_of found place) (sym is.at ∙ at-paths found done place lt) in
-          let same : s.0.going ≡ g = path-one users apart (beginning users boot) (path_of found place) s.0.going g (subst (λ ls. Path (Leads users) (beginning users boot) ls s.0.going) path is.leads) at in
+          let same : s.0.going ≡ g = path-one users (beginning users boot) (path_of found place) s.0.going g (subst (λ ls. Path (Leads users) (beginning users boot) ls s.0.going) path is.leads) at in
           subst (λ x. (i : ℕ) × IsKindAt ends (standings users x) i) same (kept.ends.all place s.0 s.1 (is.over.1 (subst (λ x. IsOver users x) (sym same) over)))
 
   -- a turn that was shown is one from the state in its place
@@ -228,7 +228,7 @@ module _ {K : Type 0} (users : List User) (apart : AreApart users) (boot : Boot)
             let s = within-at shown.states place (let long = are.long in let paths = paths-long found done in omega (arith, long, paths, lt)) in
             let is = are.states place s.0 s.1 in
             let path : is.path ≡ path_of found place = some-same is.path (path_of found place) (sym is.at ∙ at-paths found done place lt) in
-            let same : s.0.going ≡ g = path-one users apart (beginning users boot) (path_of found place) s.0.going g (subst (λ ls. Path (Leads users) (beginning users boot) ls s.0.going) path is.leads) at in
+            let same : s.0.going ≡ g = path-one users (beginning users boot) (path_of found place) s.0.going g (subst (λ ls. Path (Leads users) (beginning users boot) ls s.0.going) path is.leads) at in
             ap (λ x. fails users q None x) (sym same) ∙ held.states place s.0 s.1;
         turns = λ place t g h lt at step.
             let s = are.all place (path_of found place) g h t (at-paths found done place lt) at step in
@@ -241,7 +241,7 @@ module _ {K : Type 0} (users : List User) (apart : AreApart users) (boot : Boot)
       let s = within-at shown.states place (let long = are.long in let paths = paths-long found done in omega (arith, long, paths, lt)) in
       let is = are.states place s.0 s.1 in
       let path : is.path ≡ path_of found place = some-same is.path (path_of found place) (sym is.at ∙ at-paths found done place lt) in
-      (s.0, (s.1, path-one users apart (beginning users boot) (path_of found place) s.0.going g (subst (λ ls. Path (Leads users) (beginning users boot) ls s.0.going) path is.leads) at))
+      (s.0, (s.1, path-one users (beginning users boot) (path_of found place) s.0.going g (subst (λ ls. Path (Leads users) (beginning users boot) ls s.0.going) path is.leads) at))
 
   -- what was shown before it stands in no later place
   state-low : (place j : ℕ) → IsStateBefore shown.states place j → place ≤ j
@@ -316,10 +316,10 @@ begun-kept users questions ends tables failed none empty none_failed = record {
 }
 
 -- behind it
-module _ {K W : Type 0} {Has : W → List User → Shown → Type 0} {w : Counting W} (users : List User) (apart : AreApart users) (boot : Boot) (found : Entries K Turn) (done : ℕ) (seen : HasSeenAll (HasCounted Has) w users (beginning users boot) (paths_below found done)) where
+module _ {K W : Type 0} {Has : W → List User → Shown → Type 0} {w : Counting W} (users : List User) (boot : Boot) (found : Entries K Turn) (done : ℕ) (seen : HasSeenAll (HasCounted Has) w users (beginning users boot) (paths_below found done)) where
   pub kept-found : (questions : List AskedLine) (kinds : List Kind) (tables : Tables) (failed : List (Option Sighting)) → ((shown : Shown) → Has w.watch users shown → IsKept users questions shown kinds tables failed)
       → AreFound users boot found done questions kinds tables failed
-  kept-found questions kinds tables failed is = all-found users apart boot found done questions kinds tables failed seen.shown (is seen.shown seen.has.has) seen.are
+  kept-found questions kinds tables failed is = all-found users boot found done questions kinds tables failed seen.shown (is seen.shown seen.has.has) seen.are
 
   pub counted-found : AreCountedFound users boot found done w.turns w.ends
   counted-found = record { shown = seen.shown; are = seen.are; counted = seen.has.counted }

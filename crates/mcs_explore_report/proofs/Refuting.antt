@@ -157,6 +157,7 @@ module _ {K : Type 0} (s : UserScript) (found : Entries K Turn) (done : ℕ) (en
   question-fails : (i : ℕ) (q : AskedLine) → slice_get s.asked.items i ≡ Some q → (a : Asked) → q.asked ≡ a → IsMissed s.users ends tables (failed_at failed i) live (length found) done a → FailsInRuns s a
   question-fails i q at (asked.Idle thread entries) same it = always-holds it.verdict it.is it.fails
   question-fails i q at (asked.Again event) same it = always-holds it.verdict it.is it.fails
+  question-fails i q at (asked.Ruled rule) same it = always-holds it.verdict it.is it.fails
   question-fails i q at (asked.Live thread number) same it = is-stuck it.stuck it.stuck_is (not-held it.stuck it.verdict it.is it.fails)
   question-fails i q at (asked.Answer event pattern) same it = answer-fails event pattern.items it.verdict it.fails it.is.0 it.verdict.seen refl it.is.1
   question-fails i q at (asked.AnswerIf event pattern) same it = said-fails event pattern.items it.verdict it.fails it.is.0 it.verdict.seen refl it.is.1

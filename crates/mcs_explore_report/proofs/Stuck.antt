@@ -9,7 +9,7 @@ use Rattle.mcs_types.specs.declared.entry.Answer.{Answer}
 use Rattle.mcs_book.specs.Boots.{Boot, IsFaultless}
 use Rattle.mcs_book.specs.History.{log_of}
 use Rattle.mcs_turns.specs.declared.position.Position.{Position}
-use Rattle.mcs_turns.specs.Turns.{User, Going, AreApart, AreInRange, IsTurn, beginning, outcome}
+use Rattle.mcs_turns.specs.Turns.{User, Going, AreInRange, IsTurn, beginning, outcome}
 use Rattle.mcs_explore_equivalence.proofs.Asking.{status-same}
 use Rattle.mcs_explore_equivalence.proofs.Likenesses.{by-likeness}
 use Rattle.mcs_explore_search.specs.declared.search.Edge.{Edge}
@@ -219,7 +219,7 @@ less-or-not (suc m) (suc n) = go (less-or-not m n)
     go (inr l) = inr (omega (arith, l))
 
 -- what was found, of which the first states were expanded
-module _ {K : Type 0} (numbered : Bool) (users : List User) (apart : AreApart users) (boot : Boot) (whole : IsFaultless boot) (range : AreInRange users) (found : Entries K Turn) (done : ℕ)
+module _ {K : Type 0} (numbered : Bool) (users : List User) (boot : Boot) (whole : IsFaultless boot) (range : AreInRange users) (found : Entries K Turn) (done : ℕ)
     (edges : List Edge) (graph : IsGraphOfRuns numbered users boot found done edges) (shown : Shown) (are : AreShown users (beginning users boot) (paths_below found done) shown) (l : Live) (n : Noted) (noted : IsNotedBy users shown l n) where
   abbrev marks : List Bool
   marks = first_marks (length found) n
@@ -261,7 +261,7 @@ module _ {K : Type 0} (numbered : Bool) (users : List User) (apart : AreApart us
       let s = within-at shown.states i (let long = are.long in let paths = paths-long found done in omega (arith, long, paths, below)) in
       let is = are.states i s.0 s.1 in
       let path : is.path ≡ path_of found i = some-same is.path (path_of found i) (sym is.at ∙ at-paths found done i below) in
-      let going : s.0.going ≡ g = path-one users apart (beginning users boot) (path_of found i) s.0.going g (subst (λ ls. Path (Leads users) (beginning users boot) ls s.0.going) path is.leads) at in
+      let going : s.0.going ≡ g = path-one users (beginning users boot) (path_of found i) s.0.going g (subst (λ ls. Path (Leads users) (beginning users boot) ls s.0.going) path is.leads) at in
       base-at i lt below
       ∙ ap (λ (bs : List Bool). get_or bs i false) noted.settled
       ∙ get_or-map (λ (x : Sight). is_settled users l x.going) shown.states i s.0 false (at-within shown.states i s.0 s.1)
@@ -290,7 +290,7 @@ module _ {K : Type 0} (numbered : Bool) (users : List User) (apart : AreApart us
   made-near i g below at m =
       let made = are.turns m.number m.one m.at in
       let path : made.path ≡ path_of found i = some-same made.path (path_of found i) (sym made.at ∙ ap (λ (k : ℕ). slice_get (paths_below found done) k) m.place_is ∙ at-paths found done i below) in
-      let going : made.state ≡ g = path-one users apart (beginning users boot) (path_of found i) made.state g (subst (λ ls. Path (Leads users) (beginning users boot) ls made.state) path made.leads) at in
+      let going : made.state ≡ g = path-one users (beginning users boot) (path_of found i) made.state g (subst (λ ls. Path (Leads users) (beginning users boot) ls made.state) path made.leads) at in
       inr (
         m.one.turn,
         (
@@ -311,7 +311,7 @@ module _ {K : Type 0} (numbered : Bool) (users : List User) (apart : AreApart us
 
   -- the state of a place is that of its visit
   state-is : (i : ℕ) (g h : Going) → slice_get graph.states i ≡ Some g → IsAt users boot found i h → g ≡ h
-  state-is i g h at there_at = path-one users apart (beginning users boot) (path_of found i) g h (graph.each i g at).path there_at
+  state-is i g h at there_at = path-one users (beginning users boot) (path_of found i) g h (graph.each i g at).path there_at
 
   state-of : (i : ℕ) → i < length found → (g : Going) × (slice_get graph.states i ≡ Some g)
   state-of i lt = within-at graph.states i (subst (λ k. i < k) (sym graph.long) lt)
@@ -422,16 +422,16 @@ noted-turn users lives place t a h shown old new = noted-on users lives (with_ma
     flat-last f (y ∷ xs) x = append_assoc (f y) (flat_map f xs) (f x) ∙ ap (λ (ys : List _). f y ++ ys) (flat-last f xs x)
 
 -- what is noted decides of each question where no run answers it
-module _ {K : Type 0} (numbered : Bool) (users : List User) (apart : AreApart users) (boot : Boot) (whole : IsFaultless boot) (range : AreInRange users) (found : Entries K Turn) (done : ℕ)
+module _ {K : Type 0} (numbered : Bool) (users : List User) (boot : Boot) (whole : IsFaultless boot) (range : AreInRange users) (found : Entries K Turn) (done : ℕ)
     (edges : List Edge) (graph : IsGraphOfRuns numbered users boot found done edges) (shown : Shown) (are : AreShown users (beginning users boot) (paths_below found done) shown) (lives : List Live) (notes : List Noted) (noted : AreNotedBy users lives shown notes) where
   pub decided : length found ≤ done → AreAllSeen numbered users boot found → AreDecided users boot lives found edges notes
   decided all seen = record {
     long = noted.long;
-    each = λ i l n o at there first. stuck-first numbered users apart boot whole range found done edges graph shown are l n (noted.each i l n at there) all seen o first;
+    each = λ i l n o at there first. stuck-first numbered users boot whole range found done edges graph shown are l n (noted.each i l n at there) all seen o first;
   }
 
   pub unled-stuck : AreStuckUnled users boot lives found edges notes
   unled-stuck = record {
     long = noted.long;
-    each = λ i l n place g at there lt unled is live. stuck-there numbered users apart boot whole range found done edges graph shown are l n (noted.each i l n at there) place g lt unled is live;
+    each = λ i l n place g at there lt unled is live. stuck-there numbered users boot whole range found done edges graph shown are l n (noted.each i l n at there) place g lt unled is live;
   }

@@ -52,6 +52,7 @@ pub record HasStuckUser (s : UserScript) : Type 0 where
 abbrev pub FailsInRuns : UserScript → Asked → Type 0
 FailsInRuns s (asked.Idle thread entries) = ⊥
 FailsInRuns s (asked.Again event) = ⊥
+FailsInRuns s (asked.Ruled rule) = ⊥
 FailsInRuns s (asked.Live thread number) = HasStuckUser s
 FailsInRuns s (asked.Answer event pattern) = SomeAnswerIs s.users s.boot event pattern.items false ⊎ SomeEndLacks s.users s.boot event
 FailsInRuns s (asked.AnswerIf event pattern) = SomeAnswerIs s.users s.boot event pattern.items false

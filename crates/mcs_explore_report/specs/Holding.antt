@@ -48,6 +48,7 @@ pub record SomeAnswerIs (users : List User) (boot : Boot) (e : Event) (pattern :
 abbrev pub HoldsInRuns : List User → Boot → Asked → Type 0
 HoldsInRuns users boot (asked.Idle thread entries) = Unit {0}
 HoldsInRuns users boot (asked.Again event) = Unit {0}
+HoldsInRuns users boot (asked.Ruled rule) = Unit {0}
 HoldsInRuns users boot (asked.Live thread number) = Unit {0}
 HoldsInRuns users boot (asked.Answer event pattern) = AllAnswersAre users boot event pattern.items true × EachEndIsAnswered users boot event
 HoldsInRuns users boot (asked.AnswerIf event pattern) = AllAnswersAre users boot event pattern.items true

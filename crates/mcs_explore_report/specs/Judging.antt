@@ -66,11 +66,16 @@ is_in users g s = elim (user_of users s.thread) [ None ↦ false | Some i ↦ is
 abbrev pub gives : List User → Turn → Event → Bool
 gives users t e = elim (user_of users e.thread) [ None ↦ false | Some i ↦ (i == t.pick.user) && (e.number == t.pick.number + 1) ]
 
+-- how many entries a user at this position gave: of a program that waits, up to that with which it
+-- waits
+abbrev pub gave_by : Position → ℕ
+gave_by p = elim p.waited [ None ↦ p.next | Some last ↦ last + 1 ]
+
 -- whether a user has given an entry
 abbrev pub has_given : List User → Going → Event → Bool
 has_given users g e = elim (user_of users e.thread) [
   | None ↦ false
-  | Some i ↦ elim (slice_get g.places i) [ None ↦ false | Some p ↦ nat_le e.number p.next ]
+  | Some i ↦ elim (slice_get g.places i) [ None ↦ false | Some p ↦ nat_le e.number (gave_by p) ]
 ]
 
 -- the lines of a trace for these records, before which so many messages were sent

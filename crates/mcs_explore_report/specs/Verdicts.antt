@@ -82,6 +82,7 @@ IsAlways told pattern kinds e (Some seen) = IsFoundIn told pattern false seen �
 abbrev pub IsVerdict : List User → List Kind → Tables → Option Sighting → Option Sighting → Asked → Verdict → Type 0
 IsVerdict users kinds tables f stuck (asked.Idle thread entries) v = v ≡ record { holds = true; seen = None }
 IsVerdict users kinds tables f stuck (asked.Again event) v = v ≡ record { holds = true; seen = None }
+IsVerdict users kinds tables f stuck (asked.Ruled rule) v = v ≡ record { holds = true; seen = None }
 IsVerdict users kinds tables f stuck (asked.Live thread number) v = v ≡ record { holds = is_none stuck; seen = stuck }
 IsVerdict users kinds tables f stuck (asked.Answer event pattern) v = (v.holds ≡ is_none v.seen) × IsAlways (answers_of users tables event) pattern.items kinds event v.seen
 IsVerdict users kinds tables f stuck (asked.AnswerIf event pattern) v = (v.holds ≡ is_none v.seen) × IsSearched (answers_of users tables event) pattern.items false v.seen

@@ -136,7 +136,6 @@ pub fn watched<'a, P: Progress>(
         (length o.search.map.entries)) }
 {
     boot.is_faultless();
-    users.are_apart();
     are_in_range(users);
     let mode = mode_of(boot, users, asked, wanted.is_exact);
     let watched = Watched::new(alloc, users, asked, lives, progress)?;

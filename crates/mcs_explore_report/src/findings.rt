@@ -362,8 +362,11 @@ impl<'a, P: Progress> Findings<'a, P> {
                     Ok(Some(Unseen::NeverGiven))
                 }
             }
-            Asked::Live { .. } | Asked::Some { .. } | Asked::Idle { .. } | Asked::Again { .. } =>
-                Ok(None),
+            Asked::Live { .. }
+            | Asked::Some { .. }
+            | Asked::Idle { .. }
+            | Asked::Again { .. }
+            | Asked::Ruled { .. } => Ok(None),
         }
     }
 

@@ -1,11 +1,13 @@
-//! The first line of a report, which says how states were told apart.
+//! The first line of a report: the rules of users, and how states were told apart.
 use crate::frontier::count_of;
 use crate::modes::{Mode, make_objects, mode_of};
 use crate::naming::{names_later, names_message};
 use crate::report::Report;
 use crate::watching::Progress;
-use mcs_explore_script::UserScript;
+use mcs_explore_questions::{Asked, Rule};
+use mcs_explore_script::{AskedLine, UserScript};
 use mcs_lab_inspect::Page;
+use mcs_turns::Schedule;
 
 /// Returns the number of the first line that names a message.
 fn line_of_message(script: &UserScript) -> u64 {
@@ -54,7 +56,23 @@ fn put_mode(page: &mut Page, script: &UserScript, is_exact: bool) {
     }
 }
 
-/// Puts the first line: how much was found, and whether that is the whole.
+/// Puts the rules of users that the lines of a script set.
+fn put_rules(page: &mut Page, asked: &[AskedLine]) {
+    for line in asked {
+        let Asked::Ruled { rule } = &line.asked else {
+            continue;
+        };
+        let text = match rule {
+            Rule::By(Schedule::Serial) => "; schedule serial",
+            Rule::By(Schedule::Equal) => "; schedule equal",
+            Rule::By(Schedule::Any) => "; schedule any",
+            Rule::ToldOnce => "; resumed goes on",
+        };
+        page.put(text.as_bytes());
+    }
+}
+
+/// Puts the first line: how much was found, whether that is the whole, and by which rules.
 pub fn put_head<P: Progress>(page: &mut Page, report: &Report<'_, P>) {
     let orders = report.findings.orders;
     if !orders.is_whole() {
@@ -75,6 +93,7 @@ pub fn put_head<P: Progress>(page: &mut Page, report: &Report<'_, P>) {
     if orders.is_whole() {
         page.put(b", whole");
     }
+    put_rules(page, &report.findings.script.asked);
     put_mode(page, report.findings.script, report.is_exact);
     page.put(b"\n");
 }

@@ -4,7 +4,7 @@ ghost use Rattle.std.specs.List.{list_all, list_any};
 ghost use Rattle.mcs_book.specs.History.{line_of_number, log_of};
 ghost use Rattle.mcs_book.specs.Messages.{next_message};
 ghost use Rattle.mcs_sim.specs.Trace.{sent_after, sent_with};
-ghost use Rattle.mcs_explore_report.specs.Judging.{answered, answered_by, bare, ended_by, fails, fails_by, fails_in, given_by, gives, has_given, is_at, is_in, is_line, is_within, lines_told, record_lines, told_last};
+ghost use Rattle.mcs_explore_report.specs.Judging.{answered, answered_by, bare, ended_by, fails, fails_by, fails_in, gave_by, given_by, gives, has_given, is_at, is_in, is_line, is_within, lines_told, record_lines, told_last};
 ghost use Rattle.mcs_explore_report.specs.Judged.{AreJudgedBy, judged};
 
 use mcs_book::Line as BookLine;
@@ -122,13 +122,24 @@ fn gives(users: &Users, turn: Turn, event: Event) -> bool
     }
 }
 
+/// Returns whether a user at a position gave so many entries: of a program that waits, up to that
+/// with which it waits.
+fn gave(place: Position, number: usize) -> bool
+    ensures { result ≡ nat_le number (gave_by place) }
+{
+    match place.waited {
+        None => number <= place.next,
+        Some(last) => number <= last || number - 1 == last,
+    }
+}
+
 /// Returns whether a user has given an entry.
 fn has_given(users: &Users, walk: &Walk<PlainLines>, event: Event) -> bool
     ensures { result ≡ has_given users.now walk.now event }
 {
     match users.find(event.thread) {
         Some(user) => match walk.place(user) {
-            Some(place) => event.number <= place.next,
+            Some(place) => gave(place, event.number),
             None => false,
         },
         None => false,

@@ -65,7 +65,8 @@ pub fn names_message(asked: &Asked) -> bool
         | Asked::Some { .. }
         | Asked::Apart { .. }
         | Asked::Before { .. }
-        | Asked::Again { .. } => false,
+        | Asked::Again { .. }
+        | Asked::Ruled { .. } => false,
     }
 }
 
@@ -124,6 +125,7 @@ pub fn names_later(boot: &Boot, asked: &Asked) -> bool
         | Asked::Some { .. }
         | Asked::Apart { .. }
         | Asked::Before { .. }
-        | Asked::Again { .. } => false,
+        | Asked::Again { .. }
+        | Asked::Ruled { .. } => false,
     }
 }

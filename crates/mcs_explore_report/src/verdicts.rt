@@ -175,7 +175,7 @@ pub fn verdict_on(
         question.now.asked v) }
 {
     match &question.asked {
-        Asked::Idle { .. } | Asked::Again { .. } => Ok(all_are(None)),
+        Asked::Idle { .. } | Asked::Again { .. } | Asked::Ruled { .. } => Ok(all_are(None)),
         Asked::Live { .. } => Ok(all_are(stuck)),
         Asked::Answer { event, pattern } => {
             let told = answers_of(grounds.users, grounds.answers, *event);

@@ -260,13 +260,13 @@ same-told f t xs ys n left right is =
     same-places xs ys (left ∙ sym right) (λ i k. each.0 i (subst (λ m. i < m) left k))
 
 -- the parts of equal rows
-record SameParts (numbered : Bool) (users : List User) (g h : Going) (ks js : List (Option Pick)) : Type 0 where
+record SameParts (numbered : Bool) (users : List User) (g h : Going) (ks js : List (List Pick)) : Type 0 where
   pub counts : count_numbers numbered (log_of g.book) ≡ count_numbers numbered (log_of h.book)
   pub places : place_numbers users g ≡ place_numbers users h
   pub choices : choice_numbers g ks ≡ choice_numbers h js
   pub objects : object_rows numbered (log_of g.book) ≡ object_rows numbered (log_of h.book)
 
-same-parts : (numbered : Bool) (users : List User) (g h : Going) (ks js : List (Option Pick)) → rows_of numbered users g ks ≡ rows_of numbered users h js → SameParts numbered users g h ks js
+same-parts : (numbered : Bool) (users : List User) (g h : Going) (ks js : List (List Pick)) → rows_of numbered users g ks ≡ rows_of numbered users h js → SameParts numbered users g h ks js
 same-parts numbered users g h ks js rows =
     let counts = parted _ _ _ _ rows in
     let places = parted _ _ _ _ counts.1 in
@@ -275,7 +275,7 @@ same-parts numbered users g h ks js rows =
 
 -- two runs of one boot and users that have equal rows are alike
 module _ (numbered : Bool) (users : List User) (boot : Boot) (whole : IsFaultless boot) (range : AreInRange users) (g h : Going) (left : IsReached users boot g) (right : IsReached users boot h) (rows : HaveSameRows numbered users g h) where
-  parts : (ks js : List (Option Pick)) → ArePicks users g ks → ArePicks users h js → SameParts numbered users g h ks js
+  parts : (ks js : List (List Pick)) → ArePicks users g ks → ArePicks users h js → SameParts numbered users g h ks js
   parts ks js are bre = same-parts numbered users g h ks js ((rows.so ks are).so js bre)
 
   some : SameParts numbered users g h rows.picks (rows.so rows.picks rows.are).picks
@@ -295,7 +295,7 @@ module _ (numbered : Bool) (users : List User) (boot : Boot) (whole : IsFaultles
         places = same-told position_numbers position-told g.places h.places (length users) long.places wide.places some.places;
       }
 
-  same-choices : (ks : List (Option Pick)) → ArePicks users g ks → choices ks g.stale ≡ choices ks h.stale
+  same-choices : (ks : List (List Pick)) → ArePicks users g ks → choices ks g.stale ≡ choices ks h.stale
   same-choices ks are =
       let long = run-long users boot left.turns g left.run in
       let wide = run-long users boot right.turns h right.run in

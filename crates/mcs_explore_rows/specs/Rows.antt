@@ -20,7 +20,7 @@ use Rattle.mcs_state.specs.Saying.{row_said}
 use Rattle.mcs_state.specs.Tables.{core_said}
 use Rattle.mcs_turns.specs.declared.position.Position.{Position}
 use Rattle.mcs_turns.specs.declared.position.Pick.{Pick}
-use Rattle.mcs_turns.specs.Due.{choices, with_any_pick}
+use Rattle.mcs_turns.specs.Due.{choices, with_picks}
 use Rattle.mcs_turns.specs.Turns.{User, Going, ArePicks}
 use Rattle.mcs_explore_rows.specs.Bytes.{coded}
 use Rattle.mcs_explore_rows.specs.Naming.{Names}
@@ -106,24 +106,24 @@ pick_numbers k = k.user ∷ k.number ∷ []
 abbrev pub place_numbers : List User → Going → List ℕ
 place_numbers users g = below (λ i. option_numbers position_numbers (slice_get g.places i)) (length users)
 
--- what a core may enter that has this pick, with its stale picks
-abbrev pub choice_list_numbers : Option Pick → List Pick → List ℕ
-choice_list_numbers pick stale = list_numbers pick_numbers (with_any_pick pick stale)
+-- what a core may enter that has these picks, with its stale picks
+abbrev pub choice_list_numbers : List Pick → List Pick → List ℕ
+choice_list_numbers picks stale = list_numbers pick_numbers (with_picks picks stale)
 
 -- what each core may enter, where the cores have these picks
-abbrev pub choice_numbers : Going → List (Option Pick) → List ℕ
+abbrev pub choice_numbers : Going → List (List Pick) → List ℕ
 choice_numbers g picks = below (λ i. option_numbers (list_numbers pick_numbers) (slice_get (choices picks g.stale) i)) g.book.boot.cores
 
 -- the rows of a state of users, where the cores have these picks, and numbers of messages are told
 -- apart or not
-abbrev pub rows_of : Bool → List User → Going → List (Option Pick) → List (List ℕ)
+abbrev pub rows_of : Bool → List User → Going → List (List Pick) → List (List ℕ)
 rows_of numbered users g picks = count_numbers numbered (log_of g.book) ∷ place_numbers users g ∷ choice_numbers g picks ∷ object_rows numbered (log_of g.book)
 
 -- the cores of a state have picks, and for all that they have holds a fact
-pub record OfPicks (users : List User) (g : Going) (IsSo : List (Option Pick) → Type 0) : Type 0 where
-  pub picks : List (Option Pick)
+pub record OfPicks (users : List User) (g : Going) (IsSo : List (List Pick) → Type 0) : Type 0 where
+  pub picks : List (List Pick)
   pub are : ArePicks users g picks
-  pub so : (ks : List (Option Pick)) → ArePicks users g ks → IsSo ks
+  pub so : (ks : List (List Pick)) → ArePicks users g ks → IsSo ks
 
 -- two states have equal rows
 abbrev pub HaveSameRows : Bool → List User → Going → Going → Type 0

@@ -289,20 +289,20 @@ fn put_any_position(row: &mut Row, position: Option<Position>) -> Result<(), All
     }
 }
 
-/// Adds what a core may enter, where it has this pick, if there are stale picks of it.
+/// Adds what a core may enter, where it has these picks, if there are stale picks of it.
 fn put_any_choices(
     alloc: Global,
     row: &mut Row,
-    pick: Option<Pick>,
+    picks: &[Pick],
     stale: Option<&Picks>,
 ) -> Result<(), OutOfMemory>
     ensures { OnOk result (row.new.items
-        ≡ row.old.items ++ option_numbers (choice_list_numbers pick) (option_copied stale.entry)) }
+        ≡ row.old.items ++ option_numbers (choice_list_numbers picks.now) (option_copied stale.entry)) }
 {
     match stale {
         Some(stale) => {
             put(row, 1)?;
-            let choices = stale.with(alloc, pick)?;
+            let choices = stale.with(alloc, picks)?;
             put_picks(row, choices.as_slice())?;
         }
         None => put(row, 0)?,
@@ -322,17 +322,13 @@ fn place_row<L: Lines>(alloc: Global, users: &Users, walk: &Walk<L>) -> Result<R
 }
 
 /// The row of what each core may enter, where the cores have these picks.
-fn choice_row<L: Lines>(
-    alloc: Global,
-    walk: &Walk<L>,
-    picks: &[Option<Pick>],
-) -> Result<Row, OutOfMemory>
+fn choice_row<L: Lines>(alloc: Global, walk: &Walk<L>, picks: &[Picks]) -> Result<Row, OutOfMemory>
     ensures { IfOk result (λ r. r.items ≡ choice_numbers walk.now picks.now) }
 {
     let mut row = Vec::new(alloc);
     for core in 0..walk.kernel().book().cores() {
-        let pick = picked(picks, core as usize);
-        put_any_choices(alloc, &mut row, pick, walk.stale(CoreId(core)))?;
+        let picks = picked(picks, core as usize);
+        put_any_choices(alloc, &mut row, picks, walk.stale(CoreId(core)))?;
     }
     Ok(row)
 }
@@ -390,15 +386,13 @@ pub fn exact_numbers<L: Lines>(
     met: &mut Met,
     users: &Users,
     walk: &Walk<L>,
-    picks: &[Option<Pick>],
+    picks: &[Picks],
     numbered: bool,
 ) -> Result<Numbers, OutOfMemory>
     requires { ArePicks users.now walk.now picks.now }
     ensures named { IfOk result (λ k. NameRows numbered met.new users.now walk.now k.items) }
     ensures kept { Keeps met.old met.new }
 {
-    // A law for the proof: the cores have these picks alone.
-    users.are_apart();
     let kernel = walk.kernel();
     let mut numbers = Vec::new(alloc);
     let counts = count_row(alloc, kernel, numbered)?;

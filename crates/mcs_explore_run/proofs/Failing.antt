@@ -150,6 +150,7 @@ module _ (s : UserScript) (kinds : List Kind) (tables : Tables) (failed : List (
   question-fails : (i : ℕ) (q : AskedLine) → slice_get s.asked.items i ≡ Some q → (a : Asked) → q.asked ≡ a → IsShownToFail s.users kinds tables (failed_at failed i) a → FailsInRuns s a
   question-fails i q at (asked.Idle thread entries) same it = never-seen true it.verdict it.is it.seen
   question-fails i q at (asked.Again event) same it = never-seen true it.verdict it.is it.seen
+  question-fails i q at (asked.Ruled rule) same it = never-seen true it.verdict it.is it.seen
   question-fails i q at (asked.Live thread number) same it = never-seen true it.verdict it.is it.seen
   question-fails i q at (asked.Answer event pattern) same it = answer-fails event pattern.items it.verdict.seen it.seen it.is.1
   question-fails i q at (asked.AnswerIf event pattern) same it = said-fails event pattern.items it.verdict.seen it.seen it.is.1

@@ -4,9 +4,8 @@ ghost use Rattle.mcs_turns.specs.Turns.{ArePicks, IsOver};
 ghost use Rattle.mcs_explore_walk.specs.Walks.{HasEachTurn};
 ghost use Rattle.mcs_explore_run.specs.Runs.{CanTurn};
 
-use mcs_explore_walk::{Turn, Users, Walk};
+use mcs_explore_walk::{Picks, Turn, Users, Walk};
 use mcs_queues::Lines;
-use mcs_turns::Pick;
 use rand_core::Rng;
 use rand_pcg::Pcg32;
 
@@ -42,7 +41,7 @@ fn redrawn(
 pub fn draw<L: Lines>(
     walk: &Walk<L>,
     users: &Users,
-    picks: &[Option<Pick>],
+    picks: &[Picks],
     turns: &[Turn],
     random: &mut Pcg32,
 ) -> Option<Turn>

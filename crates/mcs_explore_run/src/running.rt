@@ -10,7 +10,7 @@ use mcs_explore_orders::{OrdersFault, Turn, Users, Walk, Watch};
 use mcs_explore_script::{UserScript, fault_of, run_text};
 use mcs_lab_check::LabFault;
 use mcs_queues::PlainLines;
-use mcs_turns::Pick;
+use mcs_users::Picks;
 use rand_core::SeedableRng;
 use rand_pcg::Pcg32;
 use std::alloc::Global;
@@ -53,7 +53,7 @@ fn make_turn<W: Watch>(
     alloc: Global,
     users: &Users,
     walk: &mut Walk<PlainLines>,
-    picks: &[Option<Pick>],
+    picks: &[Picks],
     turn: Turn,
     number: usize,
     watch: &mut W,

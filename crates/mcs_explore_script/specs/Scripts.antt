@@ -13,7 +13,7 @@ use Rattle.mcs_explore_script.specs.Lives.{lives_of}
 use Rattle.mcs_explore_script.specs.Programs.{ArePrograms, labels_of, with_programs}
 use Rattle.mcs_explore_script.specs.Questions.{questions_from, said_by}
 use Rattle.mcs_explore_script.specs.Texts.{IsText}
-use Rattle.mcs_explore_script.specs.UserLists.{all_again, with_entries}
+use Rattle.mcs_explore_script.specs.UserLists.{ruled, with_entries}
 
 -- users of a text: those of its entries, with its programs, which give their entries these names
 pub record AreUsers (text : List ℕ) (entries : List UserEntry) (users : List User) (labels : List Label) : Type 0 where
@@ -33,7 +33,7 @@ pub record SaysScript (text : List ℕ) (entries : List UserEntry) (s : UserScri
   pub given : List User
   pub labels : List Label
   pub users_are : AreUsers text entries given labels
-  pub users : s.users ≡ all_again given s.asked.items
+  pub users : s.users ≡ ruled given s.asked.items
   pub names : s.names ≡ text_names text
   pub asked : map said_by s.asked.items ≡ questions_from (scene s.boot given s.names labels) 1 (lines_of text)
   pub lives : s.lives.items ≡ lives_of s.users s.asked.items

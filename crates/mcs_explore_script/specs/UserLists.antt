@@ -1,12 +1,15 @@
 -- The users of a script (own).
-use Rattle.std.specs.Prelude.{ℕ, ◌-◌, List, [], ◌∷◌, Option, position}
+use Rattle.std.specs.Prelude.{ℕ, ◌-◌, Bool, true, false, cond, map, List, [], ◌∷◌, Option, position}
+use Rattle.std.specs.List.{list_any}
 use Rattle.mcs_types.specs.declared.id.ObjId.{ObjId}
 use Rattle.mcs_types.specs.Ids.{same}
 use Rattle.mcs_text.specs.declared.steps.UserEntry.{UserEntry}
 use Rattle.mcs_turns.specs.Turns.{User}
-use Rattle.mcs_users.specs.Users.{with_again, with_entry}
+use Rattle.mcs_users.specs.Users.{scheduled, straightened, with_again, with_entry}
 use Rattle.mcs_explore_questions.specs.declared.asking.Asked.{Asked}
 use Rattle.mcs_explore_questions.specs.declared.asking.Asked.TheVariants as asked
+use Rattle.mcs_explore_questions.specs.declared.asking.Rule.{Rule}
+use Rattle.mcs_explore_questions.specs.declared.asking.Rule.TheVariants as rule
 use Rattle.mcs_explore_script.specs.declared.questions.AskedLine.{AskedLine}
 
 -- the number of the user of a thread
@@ -18,12 +21,28 @@ abbrev pub with_entries : List User → List UserEntry → List User
 with_entries us [] = us
 with_entries us (e ∷ es) = with_entries (with_entry us e.thread e.entry) es
 
--- users of which one goes on again, where a question asks for it
-abbrev pub asked_again : List User → Asked → List User
-asked_again us (asked.Again e) = with_again us e.thread (e.number - 1)
-asked_again us _ = us
+-- users that go by a rule: that of what is told once is for the programs of all
+abbrev pub ruled_by : Rule → List User → List User
+ruled_by (rule.By by) us = map (scheduled by) us
+ruled_by rule.ToldOnce us = us
 
--- so do all of which questions ask it
-abbrev pub all_again : List User → List AskedLine → List User
-all_again us [] = us
-all_again us (q ∷ qs) = all_again (asked_again us q.asked) qs
+-- users of which one goes on again, or which go by a rule, where a line says so
+abbrev pub changed_by : List User → Asked → List User
+changed_by us (asked.Again e) = with_again us e.thread (e.number - 1)
+changed_by us (asked.Ruled rule) = ruled_by rule us
+changed_by us _ = us
+
+-- so do all of which lines say it
+abbrev pub all_changed : List User → List AskedLine → List User
+all_changed us [] = us
+all_changed us (q ∷ qs) = all_changed (changed_by us q.asked) qs
+
+-- whether a line lets no user give an entry again that was answered
+abbrev pub tells_once : Asked → Bool
+tells_once (asked.Ruled rule.ToldOnce) = true
+tells_once _ = false
+
+-- users that go by all lines: by the programs of their lists, where one lets no user give an entry
+-- again that was answered
+abbrev pub ruled : List User → List AskedLine → List User
+ruled us qs = cond (list_any (λ (q : AskedLine). tells_once q.asked) qs) (map straightened (all_changed us qs)) (all_changed us qs)

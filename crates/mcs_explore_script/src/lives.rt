@@ -76,7 +76,8 @@ fn push_asked(lives: &mut Vec<Live>, users: &Users, asked: &Asked) -> Result<(),
         | Asked::Never { .. }
         | Asked::Apart { .. }
         | Asked::Before { .. }
-        | Asked::Again { .. } => Ok(()),
+        | Asked::Again { .. }
+        | Asked::Ruled { .. } => Ok(()),
     }
 }
 

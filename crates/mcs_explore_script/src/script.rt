@@ -9,7 +9,7 @@ use crate::marks::{EntryText, entry_texts, read_names};
 use crate::programs::read_programs;
 use crate::questions::{AskedLine, read_questions};
 use crate::text::{UsersText, read_text};
-use crate::users::{add_programs, come_once, repeat, users_of};
+use crate::users::{add_programs, come_once, ruled, rules_once, users_of};
 use mcs_explore_programs::Label;
 use mcs_explore_questions::{ExploreFault, There};
 use mcs_kernel::Boot;
@@ -112,11 +112,12 @@ fn read_said(alloc: Global, said: UsersText) -> Result<UserScript, ExploreFault>
     let told = read_users(alloc, &text, &boot, entries, &names)?;
     let asked = read_asked(alloc, &text, &boot, &names, &told)?;
     let UserTexts {
-        mut users,
+        users: given,
         texts,
         ..
     } = told;
-    repeat(alloc, &mut users, &asked)?;
+    rules_once(&asked)?;
+    let users = ruled(alloc, given, &asked)?;
     come_once(alloc, &users, &asked)?;
     let lives = lives_of(alloc, &users, &asked)?;
     Ok(UserScript {

@@ -2,12 +2,13 @@
 ghost use Rattle.std.specs.Prelude.{◌≡◌, ◌++◌, ◌∷◌, [], IfOk, OnOk};
 ghost use Rattle.mcs_users.specs.Users.{with_entry};
 ghost use Rattle.mcs_explore_script.specs.Programs.{labels_of, with_one_program, with_program_entries, with_programs};
-ghost use Rattle.mcs_explore_script.specs.UserLists.{all_again, asked_again, with_entries};
+ghost use Rattle.mcs_explore_script.specs.UserLists.{all_changed, changed_by, ruled, ruled_by, tells_once, with_entries};
 
 use crate::marks::EntryText;
 use crate::questions::AskedLine;
 use mcs_explore_programs::{Label, Program, ProgramEntry};
-use mcs_explore_questions::{Asked, ExploreFault, comes_once, goes_on_once};
+use mcs_explore_questions::{Asked, ExploreFault, QuestionFault, Rule, comes_once, goes_on_once};
+use mcs_lab_check::LabFault;
 use mcs_text::UserEntry;
 use mcs_types::{ObjId, OutOfMemory};
 use mcs_users::Users;
@@ -117,12 +118,23 @@ pub fn add_programs(
     Ok(())
 }
 
-/// Lets a list go on again, where a question asks for it.
-fn repeat_one(users: &mut Users, asked: &Asked)
-    ensures { users.new ≡ asked_again users.old asked.now }
+/// Lets all users go by a rule. That of what is told once is for the programs of all.
+fn set_rule(users: &mut Users, rule: Rule)
+    ensures { users.new ≡ ruled_by rule users.old }
+{
+    match rule {
+        Rule::By(schedule) => users.set_schedule(schedule),
+        Rule::ToldOnce => {}
+    }
+}
+
+/// Lets a list go on again, or all users go by a rule, where a line says so.
+fn change(users: &mut Users, asked: &Asked)
+    ensures { users.new ≡ changed_by users.old asked.now }
 {
     match asked {
         Asked::Again { event } => users.repeat(event.thread, event.number.saturating_sub(1)),
+        Asked::Ruled { rule } => set_rule(users, *rule),
         Asked::Idle { .. }
         | Asked::Live { .. }
         | Asked::Answer { .. }
@@ -134,15 +146,83 @@ fn repeat_one(users: &mut Users, asked: &Asked)
     }
 }
 
-/// Lets lists of users go on again, where that is asked. AgainTwice where one does already.
-pub fn repeat(alloc: Global, users: &mut Users, asked: &[AskedLine]) -> Result<(), ExploreFault>
-    ensures { OnOk result (users.new ≡ all_again users.old asked.now) }
+/// Lets lists of users go on again, and all users go by schedules, where lines say so. AgainTwice
+/// where a list goes on again already.
+fn change_all(alloc: Global, users: &mut Users, asked: &[AskedLine]) -> Result<(), ExploreFault>
+    ensures { OnOk result (users.new ≡ all_changed users.old asked.now) }
 {
     for line in asked {
         if let Err(why) = goes_on_once(alloc, users, &line.asked) {
             return Err(ExploreFault::of_line(line.line, why));
         }
-        repeat_one(users, &line.asked);
+        change(users, &line.asked);
+    }
+    Ok(())
+}
+
+/// Returns whether a line lets no user give an entry again that was answered.
+fn tells_once(asked: &Asked) -> bool
+    ensures { result ≡ tells_once asked.now }
+{
+    match asked {
+        Asked::Ruled { rule } => match rule {
+            Rule::By(_) => false,
+            Rule::ToldOnce => true,
+        },
+        Asked::Idle { .. }
+        | Asked::Live { .. }
+        | Asked::Answer { .. }
+        | Asked::AnswerIf { .. }
+        | Asked::Some { .. }
+        | Asked::Never { .. }
+        | Asked::Apart { .. }
+        | Asked::Before { .. }
+        | Asked::Again { .. } => false,
+    }
+}
+
+/// Returns users that go by what all lines say of them. AgainTwice where a list goes on again
+/// already; OutOfMemory where memory was refused.
+pub fn ruled(alloc: Global, users: Users, asked: &[AskedLine]) -> Result<Users, ExploreFault>
+    ensures { IfOk result (λ u. u ≡ ruled users asked.now) }
+{
+    let mut users = users;
+    change_all(alloc, &mut users, asked)?;
+    if !asked.iter().any(|line| tells_once(&line.asked)) {
+        return Ok(users);
+    }
+    match users.straightened() {
+        Ok(users) => Ok(users),
+        Err(_) => Err(ExploreFault::Lab(LabFault::OutOfMemory)),
+    }
+}
+
+/// Whether two rules are of one kind.
+fn are_of_one_kind(one: Rule, other: Rule) -> bool {
+    match (one, other) {
+        (Rule::By(_), Rule::By(_)) | (Rule::ToldOnce, Rule::ToldOnce) => true,
+        (Rule::By(_), Rule::ToldOnce) | (Rule::ToldOnce, Rule::By(_)) => false,
+    }
+}
+
+/// Returns the rule that a line sets, if it sets one.
+fn rule_of(line: &AskedLine) -> Option<Rule> {
+    match &line.asked {
+        Asked::Ruled { rule } => Some(*rule),
+        _ => None,
+    }
+}
+
+/// Fails with RuleTwice where a line sets a rule of a kind that one before it set.
+pub fn rules_once(asked: &[AskedLine]) -> Result<(), ExploreFault> {
+    for (place, line) in asked.iter().enumerate() {
+        let Some(rule) = rule_of(line) else {
+            continue;
+        };
+        let mut before = asked[..place].iter().filter_map(rule_of);
+        if before.any(|other| are_of_one_kind(rule, other)) {
+            return Err(ExploreFault::of_line(line.line, QuestionFault::RuleTwice));
+        }
     }
     Ok(())
 }

@@ -1,5 +1,6 @@
 mod Walking
 mod Picking
+mod Scheduled
 pub mod Turning
 pub mod LastLine
 mod Telling

@@ -13,14 +13,14 @@ use Rattle.std.proofs.lemmas.Option.{slice_get_within, get_or_from_slice_get}
 use Rattle.mcs_types.proofs.Ids.{both}
 use Rattle.mcs_types.specs.declared.id.ObjId.{ObjId}
 use Rattle.mcs_types.specs.declared.id.CoreId.{CoreId}
-use Rattle.mcs_explore_walk.specs.Walks.{AreBestBelow, Gives, IsBestBelow, IsOffer, left_stale, picked_of}
+use Rattle.mcs_explore_walk.specs.Walks.{AreBest, AreBestBelow, Gives, IsBestBelow, IsBestOf, IsOffer, left_stale}
 use Rattle.mcs_book.specs.Logs.{Log}
 use Rattle.mcs_book.specs.Picking.{GoesBefore}
 use Rattle.mcs_book.specs.Threads.{prio_of}
 use Rattle.mcs_turns.specs.declared.position.Pick.{Pick}
 use Rattle.mcs_book.specs.History.{log_of}
 use Rattle.mcs_turns.specs.declared.position.Position.{Position}
-use Rattle.mcs_turns.specs.Turns.{User, Going, CanGive, ArePicks, IsPickOf}
+use Rattle.mcs_turns.specs.Turns.{User, Going, CanGive}
 use Rattle.mcs_explore_walk.specs.declared.walk.Offer.{Offer}
 use Rattle.mcs_turns.proofs.Choices.{same-pick}
 use Rattle.mcs_turns.specs.Due.{none_stale, is_same, stale_after}
@@ -83,11 +83,11 @@ nat_split i n low = go (nat_lt i n) refl
     go false e = inr (grind (arith, nat_tests, e, low))
 
 -- the stale picks from a core on, by that core
-pub stale-next : (core user i : ℕ) (ps : List (Option Pick)) (ss : List (List Pick)) (s : List Pick) → slice_get ss i ≡ Some s
+pub stale-next : (core user i : ℕ) (ps ss : List (List Pick)) (s : List Pick) → slice_get ss i ≡ Some s
     → stale_after core user i (drop i ps) (drop i ss) ≡ left_stale core user ps i s ∷ stale_after core user (i + 1) (drop (i + 1) ps) (drop (i + 1) ss)
 stale-next core user i ps ss s at = rw (drop-at ss i s at) (go (slice_get ps i) refl)
   where
-    go : (o : Option (Option Pick)) → slice_get ps i ≡ o
+    go : (o : Option (List Pick)) → slice_get ps i ≡ o
         → stale_after core user i (drop i ps) (s ∷ drop (i + 1) ss) ≡ left_stale core user ps i s ∷ stale_after core user (i + 1) (drop (i + 1) ps) (drop (i + 1) ss)
     go None e = rw (drop-past ps i e, drop-beyond ps i e, e) refl
     go (Some k) e = rw (drop-at ps i k e, e) refl
@@ -222,7 +222,7 @@ none_best users g n picks are = record {
 }
 
 -- the best of all users is the pick
-best-pick : (users : List User) (g : Going) (core : CoreId) (n : ℕ) (o : Option Pick) → length users ≤ n → IsBestBelow users g core n o → IsPickOf users g core o
+best-pick : (users : List User) (g : Going) (core : CoreId) (n : ℕ) (o : Option Pick) → length users ≤ n → IsBestBelow users g core n o → IsBestOf users g core o
 best-pick users g core n None all best = λ i u p can. best i u p (let low = in-list users i u can.user in omega (arith, low, all)) can
 best-pick users g core n (Some k) all best = record {
   user = best.1.user;
@@ -232,14 +232,14 @@ best-pick users g core n (Some k) all best = record {
   best = λ i v q can. subst (λ t. GoesBefore (log_of g.book) t v.thread) best.1.thread (best.2 i v q (let low = in-list users i v can.user in omega (arith, low, all)) can);
 }
 
-pub best_picks : (users : List User) (g : Going) (n : ℕ) (picks : List (Option Pick)) → length users ≤ n → length picks ≡ g.book.boot.cores → AreBestBelow users g n picks → ArePicks users g picks
+pub best_picks : (users : List User) (g : Going) (n : ℕ) (picks : List (Option Pick)) → length users ≤ n → length picks ≡ g.book.boot.cores → AreBestBelow users g n picks → AreBest users g picks
 best_picks users g n picks all long best = record {
   cores = long;
   each = λ core k at. best-pick users g core n k all (best.each core k at);
 }
 
 -- the stale picks so far, and those of one core more
-pub stale-step : (core user i : ℕ) (ps : List (Option Pick)) (ss done : List (List Pick)) (s left : List Pick) → slice_get ss i ≡ Some s → left ≡ left_stale core user ps i s
+pub stale-step : (core user i : ℕ) (ps ss done : List (List Pick)) (s left : List Pick) → slice_get ss i ≡ Some s → left ≡ left_stale core user ps i s
     → done ++ stale_after core user i (drop i ps) (drop i ss) ≡ (done ++ left ∷ []) ++ stale_after core user (i + 1) (drop (i + 1) ps) (drop (i + 1) ss)
 stale-step core user i ps ss done s left at is =
     let rest = stale_after core user (i + 1) (drop (i + 1) ps) (drop (i + 1) ss) in
@@ -251,32 +251,6 @@ ok-some (Ok (Some a)) P Q f h = f h
 ok-some (Ok None) P Q f h = h
 ok-some (Err e) P Q f h = h
 
--- what the place of a core has is its pick, and the other way round
-pub pick-there : (ks : List (Option Pick)) (i : ℕ) (k : Pick) → slice_get ks i ≡ Some (Some k) → picked_of ks i ≡ Some k
-pick-there ks i k e = rw e refl
-
-pub there-picked : (ks : List (Option Pick)) (i : ℕ) (k : Pick) → picked_of ks i ≡ Some k → slice_get ks i ≡ Some (Some k)
-there-picked ks i k = go (slice_get ks i) refl
-  where
-    go : (o : Option (Option Pick)) → slice_get ks i ≡ o → picked_of ks i ≡ Some k → slice_get ks i ≡ Some (Some k)
-    go None e h = let gone : picked_of ks i ≡ None = rw e refl in absurd cc
-    go (Some p) e h = let is : picked_of ks i ≡ p = rw e refl in e ∙ ap (λ x. Some x) (sym is ∙ h)
-
 -- a pick is the same as itself
 pub same-itself : (k : Pick) → is_same k k ≡ true
 same-itself k = both (k.user == k.user) (k.number == k.number) (eq-eqb k.user k.user refl) (eq-eqb k.number k.number refl)
-
-pub is-there : (ks : List (Option Pick)) (i : ℕ) (k j : Pick) → picked_of ks i ≡ Some j → is_same k j ≡ true → slice_get ks i ≡ Some (Some k)
-is-there ks i k j at is = there-picked ks i k (at ∙ ap (λ p. Some p) (sym (same-pick k j is)))
-
-pub not-there : (ks : List (Option Pick)) (i : ℕ) (k j : Pick) → picked_of ks i ≡ Some j → is_same k j ≡ false → slice_get ks i ≡ Some (Some k) → ⊥
-not-there ks i k j at other there =
-    let one : Some k ≡ Some j = sym (pick-there ks i k there) ∙ at in
-    let wrong : true ≡ false = sym (same-itself k) ∙ ap (λ p. is_same k p) (some-pick k j one) ∙ other in
-    absurd cc
-  where
-    some-pick : (a b : Pick) → Some a ≡ Some b → a ≡ b
-    some-pick a b e = search rules
-
-pub none-there : (ks : List (Option Pick)) (i : ℕ) (k : Pick) → picked_of ks i ≡ None → slice_get ks i ≡ Some (Some k) → ⊥
-none-there ks i k none there = let wrong : None ≡ Some k = sym none ∙ pick-there ks i k there in absurd cc

@@ -1,5 +1,5 @@
 -- The turns of all cores: each that the rule has is among them, and each is one of a pick.
-use Rattle.std.specs.Prelude.{ℕ, zero, suc, Bool, true, false, not, cond, ◌≡◌, ◌≤◌, ◌<◌, ◌+◌, ◌++◌, ◌||◌, ◌⊎◌, length, List, [], ◌∷◌, Option, Some, None, is_some, slice_get, slice_index_or, unwrap_or}
+use Rattle.std.specs.Prelude.{ℕ, zero, suc, Bool, true, false, not, cond, ◌≡◌, ◌≤◌, ◌<◌, ◌+◌, ◌++◌, ◌||◌, ◌⊎◌, length, map, List, [], ◌∷◌, Option, Some, None, is_some, slice_get, slice_index_or, unwrap_or}
 use Rattle.std.specs.Option.{IfNone, IfSome}
 use Rattle.std.specs.List.{Contains, list_any}
 use Rattle.std.proofs.Common.{refl, ap, sym, ◌∙◌, subst, arith, inl, inr}
@@ -14,16 +14,15 @@ use Rattle.mcs_book.specs.History.{Book, IsLegal, line_for, log_of}
 use Rattle.mcs_book.specs.Statuses.{may_enter}
 use Rattle.mcs_book.proofs.Books.KnownCores.{legal-cores}
 use Rattle.mcs_turns.specs.declared.position.Pick.{Pick}
-use Rattle.mcs_turns.specs.Due.{is_same}
-use Rattle.mcs_turns.specs.Turns.{User, Going, AreApart, ArePicks, IsOver, IsStale, IsTurn, entered, given, outcome}
+use Rattle.mcs_turns.specs.Due.{is_same, picks_at}
+use Rattle.mcs_turns.specs.Turns.{User, Going, ArePicks, IsOver, IsStale, IsTurn, entered, given, outcome}
 use Rattle.mcs_turns.proofs.OneTurn.{one-at, one-picks}
 use Rattle.mcs_explore_walk.specs.declared.walk.Turn.{Turn}
-use Rattle.mcs_explore_walk.specs.Walks.{IsEntrant, IsPicked, HasEachTurn, ArePicked, HasNoTurn, is_other, picked_of, stale_turns, step_of, turn_now, turn_of, turns_below, turns_of, turns_on}
-use Rattle.mcs_turns.proofs.Among.{none-in, first-in, later-in, one-in, split-in}
-use Rattle.mcs_turns.proofs.Choices.{same-pick}
-use Rattle.mcs_explore_walk.proofs.Picking.{nat_split, pick-there, same-itself, there-picked}
+use Rattle.mcs_explore_walk.specs.Walks.{IsEntrant, IsPicked, HasEachTurn, ArePicked, HasNoTurn, is_other, stale_turns, step_of, turn_of, turns_below, turns_of, turns_on}
+use Rattle.mcs_turns.proofs.Among.{none-in, first-in, later-in, split-in}
+use Rattle.mcs_explore_walk.proofs.Picking.{among, nat_split, same-itself}
 
-in-stale : (core : CoreId) (now : Option Pick) (js : List Pick) (k : Pick) → Contains js k → is_other now k ≡ true → Contains (stale_turns core now js) (turn_of core k)
+in-stale : (core : CoreId) (now js : List Pick) (k : Pick) → Contains js k → is_other now k ≡ true → Contains (stale_turns core now js) (turn_of core k)
 in-stale core now [] k c other = absurd (none-in k c)
 in-stale core now (j ∷ js) k c other = go (λ d. in-stale core now js k d other) (split-in j js k c) (is_other now j) refl
   where
@@ -34,31 +33,43 @@ in-stale core now (j ∷ js) k c other = go (λ d. in-stale core now js k d othe
     go rest (inr d) true f = later-in (turn_of core j) (stale_turns core now js) (turn_of core k) (rest d)
     go rest (inr d) false f = rest d
 
--- what is no other pick is that one
-not-other : (now : Option Pick) (k : Pick) → is_other now k ≡ false → now ≡ Some k
-not-other None k e = absurd cc
-not-other (Some p) k e = go (is_same p k) refl e
+-- what is none other than these is among them
+not-other : (now : List Pick) (k : Pick) → is_other now k ≡ false → Contains now k
+not-other now k e = go (list_any (is_same k) now) refl e
   where
-    go : (b : Bool) → is_same p k ≡ b → not b ≡ false → Some p ≡ Some k
-    go true is f = ap (λ j. Some j) (same-pick p k is)
+    go : (b : Bool) → list_any (is_same k) now ≡ b → not b ≡ false → Contains now k
+    go true is f = among k now is
     go false is f = absurd cc
 
-in-turns : (core : CoreId) (now : Option Pick) (js : List Pick) (k : Pick) → (now ≡ Some k) ⊎ Contains js k → Contains (turns_of core now js) (turn_of core k)
+-- a turn for each of these picks
+in-now : (core : CoreId) (now : List Pick) (k : Pick) → Contains now k → Contains (map (turn_of core) now) (turn_of core k)
+in-now core [] k c = absurd (none-in k c)
+in-now core (j ∷ js) k c = go (in-now core js k) (split-in j js k c)
+  where
+    go : (Contains js k → Contains (map (turn_of core) js) (turn_of core k)) → (j ≡ k) ⊎ Contains js k → Contains (map (turn_of core) (j ∷ js)) (turn_of core k)
+    go rest (inl e) = subst (λ i. Contains (turn_of core i ∷ map (turn_of core) js) (turn_of core k)) (sym e) (first-in (turn_of core k) (map (turn_of core) js))
+    go rest (inr d) = later-in (turn_of core j) (map (turn_of core) js) (turn_of core k) (rest d)
+
+from-now : (core : CoreId) (now : List Pick) (t : Turn) → Contains (map (turn_of core) now) t → (core ≡ t.core) × Contains now t.pick
+from-now core [] t c = absurd (none-in t c)
+from-now core (j ∷ js) t c = go (from-now core js t) (split-in (turn_of core j) (map (turn_of core) js) t c)
+  where
+    go : (Contains (map (turn_of core) js) t → (core ≡ t.core) × Contains js t.pick) → (turn_of core j ≡ t) ⊎ Contains (map (turn_of core) js) t → (core ≡ t.core) × Contains (j ∷ js) t.pick
+    go rest (inl e) = (ap (λ (u : Turn). u.core) e, subst (λ (u : Turn). Contains (j ∷ js) u.pick) e (first-in j js))
+    go rest (inr d) = let h = rest d in (h.0, later-in j js t.pick h.1)
+
+in-turns : (core : CoreId) (now js : List Pick) (k : Pick) → Contains now k ⊎ Contains js k → Contains (turns_of core now js) (turn_of core k)
 in-turns core now js k h = go h (is_other now k) refl
   where
-    picked : now ≡ Some k → Contains (turns_of core now js) (turn_of core k)
-    picked e = subst (λ o. Contains (turns_of core o js) (turn_of core k)) (sym e) (first-in (turn_of core k) (stale_turns core (Some k) js))
+    picked : Contains now k → Contains (turns_of core now js) (turn_of core k)
+    picked c = Contains-append_left (map (turn_of core) now) (stale_turns core now js) (turn_of core k) (in-now core now k c)
 
-    go : (now ≡ Some k) ⊎ Contains js k → (b : Bool) → is_other now k ≡ b → Contains (turns_of core now js) (turn_of core k)
-    go (inl e) b f = picked e
-    go (inr c) true f = Contains-append_right (turn_now core now) (stale_turns core now js) (turn_of core k) (in-stale core now js k c f)
+    go : Contains now k ⊎ Contains js k → (b : Bool) → is_other now k ≡ b → Contains (turns_of core now js) (turn_of core k)
+    go (inl c) b f = picked c
+    go (inr c) true f = Contains-append_right (map (turn_of core) now) (stale_turns core now js) (turn_of core k) (in-stale core now js k c f)
     go (inr c) false f = picked (not-other now k f)
 
--- a turn of a core enters what it picks now, or picked before
-Enters : CoreId → Option Pick → List Pick → Turn → Type 0
-Enters core now js t = (core ≡ t.core) × ((now ≡ Some t.pick) ⊎ Contains js t.pick)
-
-from-stale : (core : CoreId) (now : Option Pick) (js : List Pick) (t : Turn) → Contains (stale_turns core now js) t → (core ≡ t.core) × Contains js t.pick
+from-stale : (core : CoreId) (now js : List Pick) (t : Turn) → Contains (stale_turns core now js) t → (core ≡ t.core) × Contains js t.pick
 from-stale core now [] t c = absurd (none-in t c)
 from-stale core now (j ∷ js) t c = go (λ d. from-stale core now js t d) (is_other now j) c
   where
@@ -77,15 +88,11 @@ from-stale core now (j ∷ js) t c = go (λ d. from-stale core now js t d) (is_o
         parts (inr x) = later (rest x)
     go rest false d = later (rest d)
 
-from-turns : (core : CoreId) (now : Option Pick) (js : List Pick) (t : Turn) → Contains (turns_of core now js) t → (core ≡ t.core) × ((now ≡ Some t.pick) ⊎ Contains js t.pick)
-from-turns core now js t c = go (Contains-append_cases (turn_now core now) (stale_turns core now js) t c)
+from-turns : (core : CoreId) (now js : List Pick) (t : Turn) → Contains (turns_of core now js) t → (core ≡ t.core) × (Contains now t.pick ⊎ Contains js t.pick)
+from-turns core now js t c = go (Contains-append_cases (map (turn_of core) now) (stale_turns core now js) t c)
   where
-    picked : (o : Option Pick) → Contains (turn_now core o) t → (core ≡ t.core) × (o ≡ Some t.pick)
-    picked None d = absurd (none-in t d)
-    picked (Some k) d = let e = one-in (turn_of core k) t d in (ap (λ (u : Turn). u.core) e, ap (λ (u : Turn). Some u.pick) e)
-
-    go : Contains (turn_now core now) t ⊎ Contains (stale_turns core now js) t → (core ≡ t.core) × ((now ≡ Some t.pick) ⊎ Contains js t.pick)
-    go (inl d) = let h = picked now d in (h.0, inl h.1)
+    go : Contains (map (turn_of core) now) t ⊎ Contains (stale_turns core now js) t → (core ≡ t.core) × (Contains now t.pick ⊎ Contains js t.pick)
+    go (inl d) = let h = from-now core now t d in (h.0, inl h.1)
     go (inr d) = let h = from-stale core now js t d in (h.0, inr h.1)
 
 stale-there : (g : Going) (core : CoreId) (k : Pick) → Contains (unwrap_or (slice_get g.stale core.0) []) k → IsStale g core k
@@ -95,19 +102,19 @@ stale-there g core k c = go (slice_get g.stale core.0) refl c
     go None e d = absurd (none-in k d)
     go (Some js) e d = record { picks = js; stale = e; among = d }
 
-in-core : (g : Going) (picks : List (Option Pick)) (core : CoreId) (k : Pick) → IsPicked g picks core k → Contains (turns_on g picks core.0) (turn_of core k)
-in-core g picks core k (inl e) = in-turns core (picked_of picks core.0) (unwrap_or (slice_get g.stale core.0) []) k (inl (pick-there picks core.0 k e))
+in-core : (g : Going) (picks : List (List Pick)) (core : CoreId) (k : Pick) → IsPicked g picks core k → Contains (turns_on g picks core.0) (turn_of core k)
+in-core g picks core k (inl c) = in-turns core (picks_at picks core.0) (picks_at g.stale core.0) k (inl c)
 in-core g picks core k (inr s) =
-    in-turns core (picked_of picks core.0) (unwrap_or (slice_get g.stale core.0) []) k (inr (subst (λ o. Contains (unwrap_or o []) k) (sym s.stale) s.among))
+    in-turns core (picks_at picks core.0) (picks_at g.stale core.0) k (inr (subst (λ o. Contains (unwrap_or o []) k) (sym s.stale) s.among))
 
-from-core : (g : Going) (picks : List (Option Pick)) (i : ℕ) (t : Turn) → Contains (turns_on g picks i) t → IsPicked g picks t.core t.pick
-from-core g picks i t c = go (from-turns (record { 0 = i }) (picked_of picks i) (unwrap_or (slice_get g.stale i) []) t c)
+from-core : (g : Going) (picks : List (List Pick)) (i : ℕ) (t : Turn) → Contains (turns_on g picks i) t → IsPicked g picks t.core t.pick
+from-core g picks i t c = go (from-turns (record { 0 = i }) (picks_at picks i) (picks_at g.stale i) t c)
   where
-    go : (record { 0 = i } ≡ t.core) × ((picked_of picks i ≡ Some t.pick) ⊎ Contains (unwrap_or (slice_get g.stale i) []) t.pick) → IsPicked g picks t.core t.pick
-    go (e, inl h) = subst (λ (core : CoreId). IsPicked g picks core t.pick) e (inl (there-picked picks i t.pick h))
+    go : (record { 0 = i } ≡ t.core) × (Contains (picks_at picks i) t.pick ⊎ Contains (picks_at g.stale i) t.pick) → IsPicked g picks t.core t.pick
+    go (e, inl h) = subst (λ (core : CoreId). IsPicked g picks core t.pick) e (inl h)
     go (e, inr h) = subst (λ (core : CoreId). IsPicked g picks core t.pick) e (inr (stale-there g (record { 0 = i }) t.pick h))
 
-in-below : (g : Going) (picks : List (Option Pick)) (n : ℕ) (core : CoreId) (k : Pick) → core.0 < n → IsPicked g picks core k → Contains (turns_below g picks n) (turn_of core k)
+in-below : (g : Going) (picks : List (List Pick)) (n : ℕ) (core : CoreId) (k : Pick) → core.0 < n → IsPicked g picks core k → Contains (turns_below g picks n) (turn_of core k)
 in-below g picks zero core k low h = absurd (omega (arith, low))
 in-below g picks (suc n) core k low h = go (λ less. in-below g picks n core k less h) (nat_split core.0 n (omega (arith, low)))
   where
@@ -115,7 +122,7 @@ in-below g picks (suc n) core k low h = go (λ less. in-below g picks n core k l
     go rest (inl less) = Contains-append_left (turns_below g picks n) (turns_on g picks n) (turn_of core k) (rest less)
     go rest (inr e) = Contains-append_right (turns_below g picks n) (turns_on g picks n) (turn_of core k) (subst (λ i. Contains (turns_on g picks i) (turn_of core k)) e (in-core g picks core k h))
 
-pub from-below : (g : Going) (picks : List (Option Pick)) (n : ℕ) → ArePicked g picks (turns_below g picks n)
+pub from-below : (g : Going) (picks : List (List Pick)) (n : ℕ) → ArePicked g picks (turns_below g picks n)
 from-below g picks zero = λ t c. absurd (none-in t c)
 from-below g picks (suc n) = λ t c. go t (from-below g picks n t) (Contains-append_cases (turns_below g picks n) (turns_on g picks n) t c)
   where
@@ -136,16 +143,16 @@ core-below b core t legal enters =
 
 -- a turn that the rule has enters what its core picks or picked before, by the one list of picks
 -- that there is
-pub turn-picked : (users : List User) (g h : Going) (picks : List (Option Pick)) (core : CoreId) (k : Pick) → AreApart users → ArePicks users g picks → IsTurn users core k g h → IsPicked g picks core k
-turn-picked users g h picks core k apart are turn = go turn.picked
+pub turn-picked : (users : List User) (g h : Going) (picks : List (List Pick)) (core : CoreId) (k : Pick) → ArePicks users g picks → IsTurn users core k g h → IsPicked g picks core k
+turn-picked users g h picks core k are turn = go turn.picked
   where
-    go : (slice_get turn.picks core.0 ≡ Some (Some k)) ⊎ IsStale g core k → IsPicked g picks core k
-    go (inl e) = inl (subst (λ ks. slice_get ks core.0 ≡ Some (Some k)) (one-picks users g turn.picks picks apart turn.are_picks are) e)
+    go : Contains (picks_at turn.picks core.0) k ⊎ IsStale g core k → IsPicked g picks core k
+    go (inl c) = inl (subst (λ ks. Contains (picks_at ks core.0) k) (one-picks users g turn.picks picks turn.are_picks are) c)
     go (inr s) = inr s
 
-pub each-below : (users : List User) (g : Going) (picks : List (Option Pick)) → AreApart users → IsLegal g.book → ArePicks users g picks → HasEachTurn users g (turns_below g picks g.book.boot.cores)
-each-below users g picks apart legal are = λ core k h turn.
-    in-below g picks g.book.boot.cores core k (core-below g.book core turn.user.thread legal turn.enters) (turn-picked users g h picks core k apart are turn)
+pub each-below : (users : List User) (g : Going) (picks : List (List Pick)) → IsLegal g.book → ArePicks users g picks → HasEachTurn users g (turns_below g picks g.book.boot.cores)
+each-below users g picks legal are = λ core k h turn.
+    in-below g picks g.book.boot.cores core k (core-below g.book core turn.user.thread legal turn.enters) (turn-picked users g h picks core k are turn)
 
 pub no-user : (users : List User) (g : Going) (core : CoreId) (k : Pick) → slice_get users k.user ≡ None → HasNoTurn users g core k
 no-user users g core k none = λ h t. let wrong : None ≡ Some t.user = sym none ∙ t.is_user in absurd cc
@@ -156,8 +163,8 @@ no-entry users g core k u at none = λ h t.
     let wrong : None ≡ Some t.entry = sym none ∙ subst (λ (v : User). slice_get v.entries k.number ≡ Some t.entry) user t.is_entry in
     absurd cc
 
-pub not-picked : (users : List User) (g : Going) (picks : List (Option Pick)) (core : CoreId) (k : Pick) → AreApart users → ArePicks users g picks → (IsPicked g picks core k → ⊥) → HasNoTurn users g core k
-not-picked users g picks core k apart are other = λ h t. other (turn-picked users g h picks core k apart are t)
+pub not-picked : (users : List User) (g : Going) (picks : List (List Pick)) (core : CoreId) (k : Pick) → ArePicks users g picks → (IsPicked g picks core k → ⊥) → HasNoTurn users g core k
+not-picked users g picks core k are other = λ h t. other (turn-picked users g h picks core k are t)
 
 pub not-entering : (users : List User) (g : Going) (core : CoreId) (k : Pick) (u : User) → slice_get users k.user ≡ Some u → may_enter (log_of g.book) core u.thread ≡ false → HasNoTurn users g core k
 not-entering users g core k u at turned = λ h t.
@@ -178,11 +185,13 @@ any-same k (j ∷ js) c = go (any-same k js) (split-in j js k c)
     go rest (inl e) = ap (λ b. b || list_any (is_same k) js) (subst (λ i. is_same k i ≡ true) (sym e) (same-itself k))
     go rest (inr d) = ap (λ b. is_same k j || b) (rest d) ∙ or-true (is_same k j)
 
+pub not-among : (k : Pick) (js : List Pick) → list_any (is_same k) js ≡ false → Contains js k → ⊥
+not-among k js none c = let wrong : true ≡ false = sym (any-same k js c) ∙ none in absurd cc
+
 pub not-stale : (g : Going) (core : CoreId) (k : Pick) (js : List Pick) → slice_get g.stale core.0 ≡ Some js → list_any (is_same k) js ≡ false → IsStale g core k → ⊥
 not-stale g core k js at none s =
     let picks : s.picks ≡ js = one-at g.stale core.0 s.picks js s.stale at in
-    let wrong : true ≡ false = sym (any-same k js (subst (λ ks. Contains ks k) picks s.among)) ∙ none in
-    absurd cc
+    not-among k js none (subst (λ ks. Contains ks k) picks s.among)
 
 pub none-stale : (g : Going) (core : CoreId) (k : Pick) → slice_get g.stale core.0 ≡ None → IsStale g core k → ⊥
 none-stale g core k none s = let wrong : None ≡ Some s.picks = sym none ∙ s.stale in absurd cc
@@ -228,7 +237,7 @@ none-over users g ts n each long none = λ h f.
     none i.0 (turn_of f.core f.pick) (omega (arith, within, long)) i.1 h f.turn
 
 -- an entry that the rule lets in is a turn
-pub some-turn : {X : Type 0} (users : List User) (g : Going) (picks : List (Option Pick)) (t : Turn) (user : X → User) (entry : X → Entry) (o : Option X) → ArePicks users g picks
+pub some-turn : {X : Type 0} (users : List User) (g : Going) (picks : List (List Pick)) (t : Turn) (user : X → User) (entry : X → Entry) (o : Option X) → ArePicks users g picks
     → IfSome o (λ x. IsEntrant users g picks t (user x) (entry x)) → is_some o ≡ true → (h : Going) × IsTurn users t.core t.pick g h
 some-turn users g picks t user entry (Some x) are is there = (
   entered users picks (user x) (step_of t.core (user x) (given g (user x) t.pick (entry x))) t.pick g,

@@ -1,6 +1,6 @@
 -- What a walk finds of its users.
-use Rattle.std.specs.Prelude.{ℕ, zero, suc, Bool, true, false, not, ◌≡◌, ◌<◌, ◌⊎◌, ◌==◌, ◌++◌, cond, List, [], ◌∷◌, Option, Some, None, slice_get, unwrap_or}
-use Rattle.std.specs.List.{Contains}
+use Rattle.std.specs.Prelude.{ℕ, zero, suc, Bool, true, false, not, ◌≡◌, ◌<◌, ◌⊎◌, ◌==◌, ◌++◌, cond, length, map, List, [], ◌∷◌, Option, Some, None, slice_get}
+use Rattle.std.specs.List.{Contains, list_any}
 use Rattle.mcs_types.specs.declared.id.ObjId.{ObjId}
 use Rattle.mcs_types.specs.declared.id.CoreId.{CoreId}
 use Rattle.mcs_types.specs.declared.entry.Answer.{Answer}
@@ -12,7 +12,7 @@ use Rattle.mcs_book.specs.Statuses.{may_enter}
 use Rattle.mcs_book.specs.Picking.{GoesBefore}
 use Rattle.mcs_turns.specs.declared.position.Position.{Position}
 use Rattle.mcs_turns.specs.declared.position.Pick.{Pick}
-use Rattle.mcs_turns.specs.Due.{is_same, with_any_pick, without_user}
+use Rattle.mcs_turns.specs.Due.{is_same, picks_at, with_picks, without_user}
 use Rattle.mcs_turns.specs.Turns.{User, Going, CanGive, IsStale, IsTurn, due}
 use Rattle.mcs_kernel.specs.declared.fault.EnterFault.{EnterFault}
 use Rattle.mcs_kernel.specs.declared.fault.EnterFault.TheVariants.{BookFull, OutOfMemory}
@@ -53,6 +53,33 @@ IsBestBelow users g core n (Some k) = (t : ObjId) × Gives users g core k.user k
 pub record AreBestBelow (users : List User) (g : Going) (n : ℕ) (picks : List (Option Pick)) : Type 0 where
   pub each : (core : CoreId) (k : Option Pick) → slice_get picks core.0 ≡ Some k → IsBestBelow users g core n k
 
+-- it is the due entry of a user who can give one, and whose thread goes before those of all others
+-- who can
+pub record IsBest (users : List User) (g : Going) (core : CoreId) (k : Pick) : Type 0 where
+  pub user : User
+  pub place : Position
+  pub can : CanGive users g core k.user user place
+  pub number : k.number ≡ due (log_of g.book) user place
+  pub best : (i : ℕ) (v : User) (q : Position) → CanGive users g core i v q → GoesBefore (log_of g.book) user.thread v.thread
+
+-- the best of a core; none where nobody can give an entry there
+abbrev pub IsBestOf : List User → Going → CoreId → Option Pick → Type 0
+IsBestOf users g core None = (i : ℕ) (u : User) (p : Position) → CanGive users g core i u p → ⊥
+IsBestOf users g core (Some k) = IsBest users g core k
+
+-- the best of each of all cores
+pub record AreBest (users : List User) (g : Going) (best : List (Option Pick)) : Type 0 where
+  pub cores : length best ≡ g.book.boot.cores
+  pub each : (core : CoreId) (k : Option Pick) → slice_get best core.0 ≡ Some k → IsBestOf users g core k
+
+-- the best of a core among those of all
+abbrev pub best_at : List (Option Pick) → ℕ → Option Pick
+best_at ks i = best_by (slice_get ks i)
+  where
+    best_by : Option (Option Pick) → Option Pick
+    best_by None = None
+    best_by (Some k) = k
+
 -- whether an entry that is skipped for this, if anything, is one of a thread that may enter
 abbrev pub is_let_in : Option EnterFault → Bool
 is_let_in None = true
@@ -63,22 +90,14 @@ is_let_in (Some _) = false
 abbrev pub IsLimit : EnterFault → Type 0
 IsLimit f = (f ≡ BookFull) ⊎ (f ≡ OutOfMemory)
 
--- the pick of a core among those of all
-abbrev pub picked_of : List (Option Pick) → ℕ → Option Pick
-picked_of ks i = picked_by (slice_get ks i)
-  where
-    picked_by : Option (Option Pick) → Option Pick
-    picked_by None = None
-    picked_by (Some k) = k
-
 -- the stale picks of the core in a place after a line by a user on the core, where these were the
 -- picks
-abbrev pub left_stale : ℕ → ℕ → List (Option Pick) → ℕ → List Pick → List Pick
-left_stale core user picks i stale = cond (i == core) [] (without_user user (with_any_pick (picked_of picks i) stale))
+abbrev pub left_stale : ℕ → ℕ → List (List Pick) → ℕ → List Pick → List Pick
+left_stale core user picks i stale = cond (i == core) [] (without_user user (with_picks (picks_at picks i) stale))
 
--- it is what a core picks, or picked before
-abbrev pub IsPicked : Going → List (Option Pick) → CoreId → Pick → Type 0
-IsPicked g picks core k = (slice_get picks core.0 ≡ Some (Some k)) ⊎ IsStale g core k
+-- it is among what a core picks, or picked before
+abbrev pub IsPicked : Going → List (List Pick) → CoreId → Pick → Type 0
+IsPicked g picks core k = Contains (picks_at picks core.0) k ⊎ IsStale g core k
 
 -- an entry of a user on a core
 abbrev pub step_of : CoreId → User → Entry → Step
@@ -93,7 +112,7 @@ last_answer b = answer_of b.lines
     answer_of (l ∷ ls) = Some l.answer
 
 -- the rule has this turn, where the cores have these picks: it enters this entry of this user
-pub record IsEntrant (users : List User) (g : Going) (picks : List (Option Pick)) (t : Turn) (u : User) (e : Entry) : Type 0 where
+pub record IsEntrant (users : List User) (g : Going) (picks : List (List Pick)) (t : Turn) (u : User) (e : Entry) : Type 0 where
   pub is_user : slice_get users t.pick.user ≡ Some u
   pub is_entry : slice_get u.entries t.pick.number ≡ Some e
   pub picked : IsPicked g picks t.core t.pick
@@ -107,31 +126,25 @@ HasNoTurn users g core k = (h : Going) → IsTurn users core k g h → ⊥
 abbrev pub turn_of : CoreId → Pick → Turn
 turn_of core k = record { core = core; pick = k }
 
--- whether it is another pick than one, if there is one
-abbrev pub is_other : Option Pick → Pick → Bool
-is_other None j = true
-is_other (Some k) j = not (is_same k j)
+-- whether it is none of these
+abbrev pub is_other : List Pick → Pick → Bool
+is_other ks j = not (list_any (is_same j) ks)
 
 -- the turns of a core that enter what it picked before, but for what it picks now
-abbrev pub stale_turns : CoreId → Option Pick → List Pick → List Turn
+abbrev pub stale_turns : CoreId → List Pick → List Pick → List Turn
 stale_turns core now [] = []
 stale_turns core now (j ∷ js) = cond (is_other now j) (turn_of core j ∷ stale_turns core now js) (stale_turns core now js)
 
--- the turn of a core that enters what it picks now, if it picks one
-abbrev pub turn_now : CoreId → Option Pick → List Turn
-turn_now core None = []
-turn_now core (Some k) = turn_of core k ∷ []
-
--- the turns of a core that picks this now and picked those before
-abbrev pub turns_of : CoreId → Option Pick → List Pick → List Turn
-turns_of core now js = turn_now core now ++ stale_turns core now js
+-- the turns of a core that picks these now and picked those before
+abbrev pub turns_of : CoreId → List Pick → List Pick → List Turn
+turns_of core now js = map (turn_of core) now ++ stale_turns core now js
 
 -- the turns of a core, where the cores have these picks
-abbrev pub turns_on : Going → List (Option Pick) → ℕ → List Turn
-turns_on g picks i = turns_of (record { 0 = i }) (picked_of picks i) (unwrap_or (slice_get g.stale i) [])
+abbrev pub turns_on : Going → List (List Pick) → ℕ → List Turn
+turns_on g picks i = turns_of (record { 0 = i }) (picks_at picks i) (picks_at g.stale i)
 
 -- those of the first n cores
-abbrev pub turns_below : Going → List (Option Pick) → ℕ → List Turn
+abbrev pub turns_below : Going → List (List Pick) → ℕ → List Turn
 turns_below g picks zero = []
 turns_below g picks (suc n) = turns_below g picks n ++ turns_on g picks n
 
@@ -140,5 +153,5 @@ abbrev pub HasEachTurn : List User → Going → List Turn → Type 0
 HasEachTurn users g ts = (core : CoreId) (k : Pick) (h : Going) → IsTurn users core k g h → Contains ts (turn_of core k)
 
 -- each of these turns enters what its core picks, or picked before
-abbrev pub ArePicked : Going → List (Option Pick) → List Turn → Type 0
+abbrev pub ArePicked : Going → List (List Pick) → List Turn → Type 0
 ArePicked g picks ts = (t : Turn) → Contains ts t → IsPicked g picks t.core t.pick

@@ -6,6 +6,7 @@
 mod copies;
 mod fault;
 mod mail;
+mod scheduling;
 mod turns;
 mod walk;
 

@@ -1,35 +1,32 @@
-//! The turns that can be made: of each core its pick, and what it picked before.
-ghost use Rattle.std.specs.Prelude.{◌≡◌, ◌∷◌, ◌++◌, [], IfOk, OnOk};
+//! The turns that can be made: of each core what it picks, and what it picked before.
+ghost use Rattle.std.specs.Prelude.{◌≡◌, ◌∷◌, ◌++◌, [], map, IfOk, OnOk};
 ghost use Rattle.mcs_turns.specs.Turns.{ArePicks};
-ghost use Rattle.mcs_explore_walk.specs.Walks.{ArePicked, HasEachTurn, is_other, stale_turns, turn_now, turns_below, turns_of, turns_on};
+ghost use Rattle.mcs_explore_walk.specs.Walks.{ArePicked, HasEachTurn, is_other, stale_turns, turn_of, turns_below, turns_of, turns_on};
 
 use crate::copies::push;
 use crate::walk::{Turn, Walk, picked};
 use mcs_queues::Lines;
 use mcs_turns::Pick;
 use mcs_types::{CoreId, OutOfMemory};
-use mcs_users::Users;
+use mcs_users::{Picks, Users};
 use std::alloc::Global;
 
-/// Whether this is another pick than one, if there is one.
-fn is_other(one: Option<Pick>, pick: Pick) -> bool
-    ensures { result ≡ is_other one pick }
+/// Whether this is none of these picks.
+fn is_other(picks: &[Pick], pick: Pick) -> bool
+    ensures { result ≡ is_other picks.now pick }
 {
-    match one {
-        Some(one) => !one.is_same(pick),
-        None => true,
-    }
+    !picks.iter().any(|other| pick.is_same(*other))
 }
 
-/// Adds the turn of a core that enters this, unless it is what the core picks now.
+/// Adds the turn of a core that enters this, unless it is among what the core picks now.
 fn push_stale(
     turns: &mut Vec<Turn>,
     core: CoreId,
-    now: Option<Pick>,
+    now: &[Pick],
     pick: Pick,
 ) -> Result<(), OutOfMemory>
     ensures { OnOk result
-        (turns.new.items ≡ turns.old.items ++ stale_turns core now (pick ∷ [])) }
+        (turns.new.items ≡ turns.old.items ++ stale_turns core now.now (pick ∷ [])) }
 {
     if is_other(now, pick) {
         push(turns, Turn { core, pick })?;
@@ -37,25 +34,25 @@ fn push_stale(
     Ok(())
 }
 
-/// Adds the turn of a core that enters what it picks now, if it picks one.
-fn push_now(turns: &mut Vec<Turn>, core: CoreId, now: Option<Pick>) -> Result<(), OutOfMemory>
-    ensures { OnOk result (turns.new.items ≡ turns.old.items ++ turn_now core now) }
+/// Adds the turns of a core that enter what it picks now.
+fn push_now(turns: &mut Vec<Turn>, core: CoreId, now: &[Pick]) -> Result<(), OutOfMemory>
+    ensures { OnOk result (turns.new.items ≡ turns.old.items ++ map (turn_of core) now.now) }
 {
-    match now {
-        Some(pick) => push(turns, Turn { core, pick }),
-        None => Ok(()),
+    for pick in now {
+        push(turns, Turn { core, pick: *pick })?;
     }
+    Ok(())
 }
 
-/// Adds the turns of a core that picks this now and picked those before.
+/// Adds the turns of a core that picks these now and picked those before.
 fn add_turns(
     turns: &mut Vec<Turn>,
     core: CoreId,
-    now: Option<Pick>,
+    now: &[Pick],
     stale: &[Pick],
 ) -> Result<(), OutOfMemory>
     ensures { OnOk result
-        (turns.new.items ≡ turns.old.items ++ turns_of core now stale.now) }
+        (turns.new.items ≡ turns.old.items ++ turns_of core now.now stale.now) }
 {
     push_now(turns, core, now)?;
     for pick in stale {
@@ -69,7 +66,7 @@ impl<L: Lines> Walk<L> {
     fn add_core(
         &self,
         turns: &mut Vec<Turn>,
-        picks: &[Option<Pick>],
+        picks: &[Picks],
         core: CoreId,
     ) -> Result<(), OutOfMemory>
         ensures { OnOk result
@@ -86,7 +83,7 @@ impl<L: Lines> Walk<L> {
     fn turns_below(
         &self,
         alloc: Global,
-        picks: &[Option<Pick>],
+        picks: &[Picks],
         cores: u8,
     ) -> Result<Vec<Turn>, OutOfMemory>
         ensures { IfOk result (λ v. v.items ≡ turns_below self.now picks.now cores) }
@@ -104,13 +101,12 @@ impl<L: Lines> Walk<L> {
         &self,
         alloc: Global,
         users: &Users,
-        picks: &[Option<Pick>],
+        picks: &[Picks],
     ) -> Result<Vec<Turn>, OutOfMemory>
         requires { ArePicks users.now self.now picks.now }
         ensures all { IfOk result (λ v. HasEachTurn users.now self.now v.items) }
         ensures picked { IfOk result (λ v. ArePicked self.now picks.now v.items) }
     {
-        users.are_apart();
         let cores = self.kernel().book().cores();
         self.turns_below(alloc, picks, cores)
     }

@@ -1,15 +1,16 @@
 //! A kernel, how far each user is, and what each core may enter.
 ghost use Rattle.std.specs.Prelude.{◌≡◌, ◌≤◌, ◌<◌, ◌+◌, ◌^◌, ℕ, true, false, [], IfOk, IfSome, IfNone, OnOk, OnErr, Some, length, map, replicate, slice_get, option_copied};
+ghost use Rattle.std.specs.List.{Contains};
 ghost use Rattle.mcs_types.specs.declared.id.ObjId.{ObjId};
 ghost use Rattle.mcs_book.specs.History.{IsLegal, log_of};
 ghost use Rattle.mcs_book.specs.Picking.{GoesBefore};
 ghost use Rattle.mcs_book.specs.Statuses.{is_ready, may_enter, status_of};
 ghost use Rattle.mcs_book.specs.Threads.{prio_of};
 ghost use Rattle.mcs_turns.specs.declared.position.Position.{Position};
-ghost use Rattle.mcs_turns.specs.Due.{none_stale, stale_after};
+ghost use Rattle.mcs_turns.specs.Due.{none_stale, picks_at, stale_after};
 ghost use Rattle.mcs_turns.specs.Mail.{brought};
 ghost use Rattle.mcs_turns.specs.Turns.{Going, IsStale, ArePicks, IsOver, IsTurn, Follows, all_told, beginning, entered, put_at, saved_at, started};
-ghost use Rattle.mcs_explore_walk.specs.Walks.{AreBestBelow, EntersSomewhere, HasEachTurn, HasNoTurn, IsBestBelow, IsEntrant, IsEntryCore, IsOffer, IsPicked, is_let_in, last_answer, left_stale, picked_of, step_of};
+ghost use Rattle.mcs_explore_walk.specs.Walks.{AreBest, AreBestBelow, EntersSomewhere, HasEachTurn, HasNoTurn, IsBestBelow, IsEntrant, IsEntryCore, IsOffer, IsPicked, is_let_in, last_answer, left_stale, step_of};
 
 use crate::copies::{copy_all, push};
 use crate::fault::{OrdersFault, limit_of};
@@ -31,10 +32,10 @@ pub struct Turn {
 
 /// What a user can give now: the one core on which it can, its pick, and its thread.
 #[derive(Clone, Copy, Drop)]
-struct Offer {
-    core: CoreId,
-    pick: Pick,
-    thread: ObjId,
+pub(crate) struct Offer {
+    pub core: CoreId,
+    pub pick: Pick,
+    pub thread: ObjId,
 }
 
 /// A kernel, the positions of its users, and for each core what it picked since its last line and
@@ -111,7 +112,7 @@ fn entry_core<L: Lines>(kernel: &Kernel<L>, thread: ObjId, status: Option<Status
 }
 
 /// The priority of a thread that may enter.
-fn priority_of<L: Lines>(kernel: &Kernel<L>, thread: ObjId) -> u8
+pub(crate) fn priority_of<L: Lines>(kernel: &Kernel<L>, thread: ObjId) -> u8
     requires { EntersSomewhere (log_of kernel.now) thread }
     ensures { result ≡ prio_of (log_of kernel.now) thread }
 {
@@ -164,17 +165,17 @@ fn put(places: &mut Vec<Position>, user: usize, place: Position)
     }
 }
 
-/// The pick of a core among those of all; None where there is no such core.
-pub fn picked(picks: &[Option<Pick>], core: usize) -> Option<Pick>
-    ensures { result ≡ picked_of picks.now core }
+/// Returns the picks of a core among those of all; none where there is no such core.
+pub fn picked(picks: &[Picks], core: usize) -> &[Pick]
+    ensures { result.now ≡ picks_at picks.now core }
 {
     match picks.get(core) {
-        Some(pick) => *pick,
-        None => None,
+        Some(picks) => picks.as_slice(),
+        None => &[],
     }
 }
 
-/// None for each of so many cores.
+/// Returns None for each of so many cores.
 fn no_picks(alloc: Global, cores: u8) -> Result<Vec<Option<Pick>>, OutOfMemory>
     ensures { IfOk result (λ v. v.items ≡ replicate cores None) }
 {
@@ -186,14 +187,13 @@ fn no_picks(alloc: Global, cores: u8) -> Result<Vec<Option<Pick>>, OutOfMemory>
 }
 
 /// Whether a core picks this, where the cores have these picks.
-fn is_picked(picks: &[Option<Pick>], turn: Turn) -> bool
-    ensures yes { result ≡ true → slice_get picks.now turn.core.0 ≡ Some (Some turn.pick) }
-    ensures no { result ≡ false → slice_get picks.now turn.core.0 ≡ Some (Some turn.pick) → ⊥ }
+fn is_picked(picks: &[Picks], turn: Turn) -> bool
+    ensures yes { result ≡ true → Contains (picks_at picks.now turn.core.0) turn.pick }
+    ensures no { result ≡ false → Contains (picks_at picks.now turn.core.0) turn.pick → ⊥ }
 {
-    match picked(picks, turn.core.0 as usize) {
-        Some(pick) => turn.pick.is_same(pick),
-        None => false,
-    }
+    picked(picks, turn.core.0 as usize)
+        .iter()
+        .any(|pick| turn.pick.is_same(*pick))
 }
 
 impl<L: Lines> Walk<L> {
@@ -234,7 +234,7 @@ impl<L: Lines> Walk<L> {
     }
 
     /// What a user can give now; None where it has no entry left, or its thread may enter nowhere.
-    fn offer(&self, users: &Users, user: usize) -> Option<Offer>
+    pub(crate) fn offer(&self, users: &Users, user: usize) -> Option<Offer>
         ensures { IsOffer users.now self.now user result }
     {
         let list = users.at(user)?;
@@ -275,33 +275,37 @@ impl<L: Lines> Walk<L> {
 
     /// Notes what a user can give, where it goes before the best that those before it can give.
     #[tactic(auto, using(crate::proofs::Picking::all_kept, crate::proofs::Picking::all_noted, crate::proofs::Picking::all_beyond))]
-    fn note(&self, users: &Users, user: usize, picks: &mut Vec<Option<Pick>>)
-        requires { AreBestBelow users.now self.now user picks.old.items }
-        ensures best { AreBestBelow users.now self.now (user + 1) picks.new.items }
-        ensures length { length picks.new.items ≡ length picks.old.items }
+    fn note(&self, users: &Users, user: usize, best: &mut Vec<Option<Pick>>)
+        requires { AreBestBelow users.now self.now user best.old.items }
+        ensures best { AreBestBelow users.now self.now (user + 1) best.new.items }
+        ensures length { length best.new.items ≡ length best.old.items }
     {
         let Some(offer) = self.offer(users, user) else {
             return;
         };
         let core = offer.core.0 as usize;
-        if core < picks.len() {
-            let best = picks[core];
-            let better = self.better(users, user, offer, best);
-            picks[core] = Some(better);
+        if core < best.len() {
+            let before = best[core];
+            let better = self.better(users, user, offer, before);
+            best[core] = Some(better);
         }
     }
 
-    /// What each core picks: the due entry of the user that can give one and whose thread goes
-    /// before those of all others that can.
+    /// Returns the best of each core: the due entry of the user that can give one and whose thread
+    /// goes before those of all others that can.
     #[tactic(auto, using(crate::proofs::Picking::none_best, crate::proofs::Picking::best_picks))]
-    pub fn picks(&self, alloc: Global, users: &Users) -> Result<Vec<Option<Pick>>, OutOfMemory>
-        ensures { IfOk result (λ v. ArePicks users.now self.now v.items) }
+    pub(crate) fn best(
+        &self,
+        alloc: Global,
+        users: &Users,
+    ) -> Result<Vec<Option<Pick>>, OutOfMemory>
+        ensures { IfOk result (λ v. AreBest users.now self.now v.items) }
     {
-        let mut picks = no_picks(alloc, self.kernel.book().cores())?;
+        let mut best = no_picks(alloc, self.kernel.book().cores())?;
         for user in 0..users.lists().len() {
-            self.note(users, user, &mut picks);
+            self.note(users, user, &mut best);
         }
-        Ok(picks)
+        Ok(best)
     }
 
     /// The stale picks of the core in a place after a line by a user on a core, where the cores had
@@ -312,7 +316,7 @@ impl<L: Lines> Walk<L> {
         place: usize,
         core: CoreId,
         user: usize,
-        picks: &[Option<Pick>],
+        picks: &[Picks],
     ) -> Result<Picks, OutOfMemory>
         ensures { IfOk result (λ p. IfSome (slice_get self.now.stale place) (λ stale.
             p ≡ left_stale core.0 user picks.now place stale)) }
@@ -334,7 +338,7 @@ impl<L: Lines> Walk<L> {
         alloc: Global,
         core: CoreId,
         user: usize,
-        picks: &[Option<Pick>],
+        picks: &[Picks],
     ) -> Result<Vec<Picks>, OutOfMemory>
         ensures { IfOk result (λ v.
             v.items ≡ stale_after core.0 user 0 picks.now self.now.stale) }
@@ -360,7 +364,7 @@ impl<L: Lines> Walk<L> {
 
     /// Whether a turn enters what its core picks, where the cores have these picks, or what it
     /// picked before.
-    fn may_take(&self, picks: &[Option<Pick>], turn: Turn) -> bool
+    fn may_take(&self, picks: &[Picks], turn: Turn) -> bool
         ensures yes { result ≡ true → IsPicked self.now picks.now turn.core turn.pick }
         ensures no { result ≡ false → IsPicked self.now picks.now turn.core turn.pick → ⊥ }
     {
@@ -398,7 +402,7 @@ impl<L: Lines> Walk<L> {
         users: &Users,
         list: &UserList,
         entry: Entry,
-        picks: &[Option<Pick>],
+        picks: &[Picks],
         turn: Turn,
     ) -> Result<Answer, OrdersFault>
         requires number { turn.pick.number < length list.now.entries }
@@ -427,7 +431,7 @@ impl<L: Lines> Walk<L> {
     fn entrant<'u>(
         &self,
         users: &'u Users,
-        picks: &[Option<Pick>],
+        picks: &[Picks],
         turn: Turn,
     ) -> Option<(&'u UserList, &'u Entry)>
         requires { ArePicks users.now self.now picks.now }
@@ -435,7 +439,6 @@ impl<L: Lines> Walk<L> {
             IsEntrant users.now self.now picks.now turn e.0.now e.1.now) }
         ensures none { IfNone result (HasNoTurn users.now self.now turn.core turn.pick) }
     {
-        users.are_apart();
         let Some(list) = users.at(turn.pick.user) else {
             return None;
         };
@@ -452,7 +455,7 @@ impl<L: Lines> Walk<L> {
     }
 
     /// Returns whether the rule has a turn, where the cores have these picks.
-    pub fn has_turn(&self, users: &Users, picks: &[Option<Pick>], turn: Turn) -> bool
+    pub fn has_turn(&self, users: &Users, picks: &[Picks], turn: Turn) -> bool
         requires { ArePicks users.now self.now picks.now }
         ensures yes { result ≡ true → (h : Going)
             × IsTurn users.now turn.core turn.pick self.now h }
@@ -462,7 +465,7 @@ impl<L: Lines> Walk<L> {
     }
 
     /// Returns whether no turn is possible, where the cores have these picks and so these turns.
-    pub fn is_over(&self, users: &Users, picks: &[Option<Pick>], turns: &[Turn]) -> bool
+    pub fn is_over(&self, users: &Users, picks: &[Picks], turns: &[Turn]) -> bool
         requires picks { ArePicks users.now self.now picks.now }
         requires turns { HasEachTurn users.now self.now turns.now }
         ensures over { result ≡ true → IsOver users.now self.now }
@@ -483,7 +486,7 @@ impl<L: Lines> Walk<L> {
         &mut self,
         alloc: Global,
         users: &Users,
-        picks: &[Option<Pick>],
+        picks: &[Picks],
         turn: Turn,
     ) -> Result<Option<Answer>, OrdersFault>
         requires { ArePicks users.now self.old picks.now }

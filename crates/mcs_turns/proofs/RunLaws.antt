@@ -1,5 +1,5 @@
 -- What holds of every run, by one turn after another.
-use Rattle.std.specs.Prelude.{ℕ, zero, suc, ◌≡◌, ◌+◌, map, length, List, [], ◌∷◌, Option, None}
+use Rattle.std.specs.Prelude.{ℕ, zero, suc, ◌≡◌, ◌+◌, map, length, List, [], ◌∷◌, None}
 use Rattle.std.proofs.Common.{refl, ap, sym, ◌∙◌, subst}
 use Rattle.mcs_book.specs.Boots.{Boot, IsFaultless}
 use Rattle.mcs_book.specs.History.{IsLegal}
@@ -26,7 +26,7 @@ length-put i x [] = refl
 length-put zero x (y ∷ ys) = refl
 length-put (suc i) x (y ∷ ys) = ap (λ n. suc n) (length-put i x ys)
 
-length-stale : (core user i : ℕ) (picks : List (Option Pick)) (ss : List (List Pick)) → length (stale_after core user i picks ss) ≡ length ss
+length-stale : (core user i : ℕ) (picks : List (List Pick)) (ss : List (List Pick)) → length (stale_after core user i picks ss) ≡ length ss
 length-stale core user i picks [] = refl
 length-stale core user i [] (s ∷ ss) = ap (λ n. suc n) (length-stale core user (i + 1) [] ss)
 length-stale core user i (k ∷ ks) (s ∷ ss) = ap (λ n. suc n) (length-stale core user (i + 1) ks ss)
@@ -43,7 +43,7 @@ length-told : (rs : List Reached) (own i : ℕ) (us : List User) (ps : List Posi
 length-told rs own i us [] = refl
 length-told rs own i us (p ∷ ps) = ap (λ n. suc n) (length-told rs own (i + 1) us ps)
 
-long-entered : (users : List User) (picks : List (Option Pick)) (u : User) (s : Step) (k : Pick) (g : Going) → length (entered users picks u s k g).places ≡ length g.places
+long-entered : (users : List User) (picks : List (List Pick)) (u : User) (s : Step) (k : Pick) (g : Going) → length (entered users picks u s k g).places ≡ length g.places
 long-entered users picks u s k g =
     let there = behind u k.number (saved_at g k.user) (outcome g.book s).answer in
     length-told (reached_from None (outcome g.book s).records) k.user 0 users (put_at k.user there g.places) ∙ length-put k.user there g.places

@@ -1,5 +1,5 @@
 -- Which entry of a user is due, what a line moves, and which picks of a core are stale (own).
-use Rattle.std.specs.Prelude.{ℕ, zero, suc, ◌+◌, ◌==◌, ◌&&◌, ◌||◌, Bool, not, cond, nat_lt, filter, List, [], ◌∷◌, Option, Some, None, unwrap_or}
+use Rattle.std.specs.Prelude.{ℕ, zero, suc, ◌+◌, ◌==◌, ◌&&◌, ◌||◌, Bool, not, cond, nat_lt, filter, List, [], ◌∷◌, Option, Some, None, slice_get, unwrap_or}
 use Rattle.mcs_types.specs.declared.entry.Answer.{Answer}
 use Rattle.mcs_types.specs.declared.entry.Answer.TheVariants as answer
 use Rattle.mcs_types.specs.declared.record.Status.{Status}
@@ -36,16 +36,20 @@ abbrev pub with_pick : Pick → List Pick → List Pick
 with_pick k [] = k ∷ []
 with_pick k (j ∷ js) = cond (is_same k j) (j ∷ js) (cond (is_ahead k j) (k ∷ j ∷ js) (j ∷ with_pick k js))
 
--- the same, where there may be no pick
-abbrev pub with_any_pick : Option Pick → List Pick → List Pick
-with_any_pick None js = js
-with_any_pick (Some k) js = with_pick k js
+-- picks in order, with more, but for those that are among them
+abbrev pub with_picks : List Pick → List Pick → List Pick
+with_picks [] js = js
+with_picks (k ∷ ks) js = with_picks ks (with_pick k js)
 
--- what each core may enter: its stale picks and its pick, in order
-abbrev pub choices : List (Option Pick) → List (List Pick) → List (List Pick)
-choices picks [] = []
+-- the picks of the core of the number i; none where there is no such core
+abbrev pub picks_at : List (List Pick) → ℕ → List Pick
+picks_at ps i = unwrap_or (slice_get ps i) []
+
+-- what each core may enter: its stale picks and its picks, in order
+abbrev pub choices : List (List Pick) → List (List Pick) → List (List Pick)
+choices ps [] = []
 choices [] (s ∷ ss) = s ∷ choices [] ss
-choices (k ∷ ks) (s ∷ ss) = with_any_pick k s ∷ choices ks ss
+choices (p ∷ ps) (s ∷ ss) = with_picks p s ∷ choices ps ss
 
 -- those of all users but one
 abbrev pub without_user : ℕ → List Pick → List Pick
@@ -54,10 +58,10 @@ without_user user js = filter (λ (j : Pick). not (j.user == user)) js
 -- the stale picks of each core from the number i on, after a line by the user on the core: that
 -- core has none; each other keeps its own and what it would have picked before the line, without
 -- those of the user, who has moved
-abbrev pub stale_after : ℕ → ℕ → ℕ → List (Option Pick) → List (List Pick) → List (List Pick)
-stale_after core user i picks [] = []
+abbrev pub stale_after : ℕ → ℕ → ℕ → List (List Pick) → List (List Pick) → List (List Pick)
+stale_after core user i ps [] = []
 stale_after core user i [] (s ∷ ss) = cond (i == core) [] (without_user user s) ∷ stale_after core user (i + 1) [] ss
-stale_after core user i (k ∷ ks) (s ∷ ss) = cond (i == core) [] (without_user user (with_any_pick k s)) ∷ stale_after core user (i + 1) ks ss
+stale_after core user i (p ∷ ps) (s ∷ ss) = cond (i == core) [] (without_user user (with_picks p s)) ∷ stale_after core user (i + 1) ps ss
 
 -- so many cores without a stale pick
 abbrev pub none_stale : ℕ → List (List Pick)

@@ -1,7 +1,7 @@
 -- Runs of users: each turn enters what a core picks, or what it picked since its last line and
 -- whose user has not moved (own).
-use Rattle.std.specs.Prelude.{ℕ, zero, suc, ◌≡◌, ◌==◌, ◌<◌, ◌+◌, ◌⊎◌, Bool, true, false, cond, nat_lt, map, length, List, [], ◌∷◌, Option, Some, None, slice_get, unwrap_or}
-use Rattle.std.specs.List.{Contains}
+use Rattle.std.specs.Prelude.{ℕ, zero, suc, ◌≡◌, ◌==◌, ◌<◌, ◌≤◌, ◌+◌, ◌⊎◌, Bool, true, false, cond, nat_lt, map, length, List, [], ◌∷◌, Option, Some, None, slice_get, unwrap_or}
+use Rattle.std.specs.List.{AllPairs, Contains}
 use Rattle.mcs_types.specs.declared.id.ObjId.{ObjId}
 use Rattle.mcs_types.specs.declared.id.CoreId.{CoreId}
 use Rattle.mcs_types.specs.declared.entry.Answer.{Answer}
@@ -16,28 +16,32 @@ use Rattle.mcs_book.specs.Logs.{Log}
 use Rattle.mcs_book.specs.Pieces.{Outcome}
 use Rattle.mcs_book.specs.Picking.{GoesBefore}
 use Rattle.mcs_book.specs.Statuses.{status_of, may_enter}
+use Rattle.mcs_book.specs.Threads.{prio_of}
 use Rattle.mcs_book.specs.Table.{does}
 use Rattle.mcs_types.specs.Changes.{is_send}
 use Rattle.mcs_turns.specs.declared.position.Position.{Position}
 use Rattle.mcs_turns.specs.declared.position.Pick.{Pick}
+use Rattle.mcs_turns.specs.declared.position.Schedule.{Schedule}
+use Rattle.mcs_turns.specs.declared.position.Schedule.TheVariants as schedule
 use Rattle.mcs_turns.specs.declared.program.Fill.{Fill}
 use Rattle.mcs_turns.specs.declared.program.Op.{Op}
 use Rattle.mcs_turns.specs.declared.program.Saved.{Saved}
 use Rattle.mcs_turns.specs.declared.program.Settled.{Settled}
 use Rattle.mcs_turns.specs.declared.reached.Reached.{Reached}
-use Rattle.mcs_turns.specs.Due.{due_by, begun, moved_past, stale_after, none_stale}
+use Rattle.mcs_turns.specs.Due.{due_by, begun, moved_past, none_stale, picks_at, stale_after}
 use Rattle.mcs_turns.specs.Mail.{reached_from}
 use Rattle.mcs_turns.specs.Programs.{filled, goes_on, nothing_saved, starts}
 
 -- a thread, its entries, the number of the entry with which a list goes on after the last (none
--- where the last is its last), and its program with what it fills in: where it has none, the user
--- gives its entries one after the other
+-- where the last is its last), its program with what it fills in, and when its core picks it: where
+-- it has no program, the user gives its entries one after the other
 pub record User : Type 0 where
   pub thread : ObjId
   pub entries : List Entry
   pub again : Option ℕ
   pub ops : List Op
   pub fills : List Fill
+  pub schedule : Schedule
 
 -- whether there is a program
 abbrev pub is_program : List Op → Bool
@@ -71,24 +75,35 @@ pub record CanGive (users : List User) (g : Going) (core : CoreId) (i : ℕ) (u 
   pub left : due (log_of g.book) u p < length u.entries
   pub enters : may_enter (log_of g.book) core u.thread ≡ true
 
--- it is the due entry of a user who can give one, and whose thread goes before those of all others
--- who can
-pub record IsBest (users : List User) (g : Going) (core : CoreId) (k : Pick) : Type 0 where
+-- a core may pick a thread beside another one that may enter there
+abbrev pub MayPrecede : Schedule → Log → ObjId → ObjId → Type 0
+MayPrecede schedule.Serial R t u = GoesBefore R t u
+MayPrecede schedule.Equal R t u = prio_of R u ≤ prio_of R t
+MayPrecede schedule.Any R t u = Unit {0}
+
+-- it is the due entry of a user who can give one, and whose thread the core may pick beside those of
+-- all others who can
+pub record CanBePicked (users : List User) (g : Going) (core : CoreId) (k : Pick) : Type 0 where
   pub user : User
   pub place : Position
   pub can : CanGive users g core k.user user place
   pub number : k.number ≡ due (log_of g.book) user place
-  pub best : (i : ℕ) (v : User) (q : Position) → CanGive users g core i v q → GoesBefore (log_of g.book) user.thread v.thread
+  pub best : (i : ℕ) (v : User) (q : Position) → CanGive users g core i v q → MayPrecede user.schedule (log_of g.book) user.thread v.thread
 
--- what a core picks; none where nobody can give an entry there
-abbrev pub IsPickOf : List User → Going → CoreId → Option Pick → Type 0
-IsPickOf users g core None = (i : ℕ) (u : User) (p : Position) → CanGive users g core i u p → ⊥
-IsPickOf users g core (Some k) = IsBest users g core k
+-- picks of lower users come first, and each user has one
+abbrev pub AreAscending : List Pick → Type 0
+AreAscending ks = AllPairs (λ (k j : Pick). k.user < j.user) ks
+
+-- all that a core may pick, in order
+pub record ArePicksOf (users : List User) (g : Going) (core : CoreId) (ks : List Pick) : Type 0 where
+  pub picked : (k : Pick) → Contains ks k → CanBePicked users g core k
+  pub all : (k : Pick) → CanBePicked users g core k → Contains ks k
+  pub ascending : AreAscending ks
 
 -- the picks of all cores
-pub record ArePicks (users : List User) (g : Going) (picks : List (Option Pick)) : Type 0 where
+pub record ArePicks (users : List User) (g : Going) (picks : List (List Pick)) : Type 0 where
   pub cores : length picks ≡ g.book.boot.cores
-  pub each : (core : CoreId) (k : Option Pick) → slice_get picks core.0 ≡ Some k → IsPickOf users g core k
+  pub each : (core : CoreId) (ks : List Pick) → slice_get picks core.0 ≡ Some ks → ArePicksOf users g core ks
 
 -- it is a stale pick of the core
 pub record IsStale (g : Going) (core : CoreId) (k : Pick) : Type 0 where
@@ -185,22 +200,22 @@ places_after users o u k g =
     (put_at k.user (behind u k.number (saved_at g k.user) o.answer) g.places)
 
 -- how far a run is after an entry of a user on a core, where the cores had these picks
-abbrev pub entered : List User → List (Option Pick) → User → Step → Pick → Going → Going
+abbrev pub entered : List User → List (List Pick) → User → Step → Pick → Going → Going
 entered users picks u s k g = record {
   book = record g.book { lines = line_for s (outcome g.book s) ∷ g.book.lines };
   places = places_after users (outcome g.book s) u k g;
   stale = stale_after s.core.0 k.user 0 picks g.stale;
 }
 
--- one turn: a core enters its pick, or a stale one of its own
+-- one turn: a core enters one of its picks, or a stale one of its own
 pub record IsTurn (users : List User) (core : CoreId) (k : Pick) (g h : Going) : Type 0 where
   pub user : User
   pub entry : Entry
-  pub picks : List (Option Pick)
+  pub picks : List (List Pick)
   pub is_user : slice_get users k.user ≡ Some user
   pub is_entry : slice_get user.entries k.number ≡ Some entry
   pub are_picks : ArePicks users g picks
-  pub picked : (slice_get picks core.0 ≡ Some (Some k)) ⊎ IsStale g core k
+  pub picked : Contains (picks_at picks core.0) k ⊎ IsStale g core k
   pub enters : may_enter (log_of g.book) core user.thread ≡ true
   pub after : h ≡ entered users picks user (record { core = core; thread = user.thread; entry = given g user k entry }) k g
 

@@ -1,10 +1,10 @@
 //! What holds of every run (own). Each law is one of definitions, and its function does nothing.
-ghost use Rattle.std.specs.Prelude.{◌≡◌, ℕ, List, length, Option};
+ghost use Rattle.std.specs.Prelude.{◌≡◌, ℕ, List, length};
 ghost use Rattle.mcs_types.specs.declared.id.CoreId.{CoreId};
 ghost use Rattle.mcs_book.specs.Boots.{Boot, IsFaultless};
 ghost use Rattle.mcs_book.specs.History.{IsLegal};
 ghost use Rattle.mcs_turns.specs.declared.position.Pick.{Pick};
-ghost use Rattle.mcs_turns.specs.Turns.{User, Going, AreApart, AreInRange, ArePicks, IsRun, IsTurn};
+ghost use Rattle.mcs_turns.specs.Turns.{User, Going, AreInRange, ArePicks, IsRun, IsTurn};
 
 /// The book of a run of users (at.0) after a boot without fault (at.1), by so many turns (at.2), is
 /// legal, where the numbers of all their entries are in their ranges.
@@ -26,21 +26,18 @@ pub fn run_long()
     ensures stale { length at.3.stale ≡ at.1.cores }
 {}
 
-/// Where no two users (at.0) have one thread, the cores have one list of picks (at.2 and at.3) at a
-/// point of a run (at.1).
+/// The cores have the same picks (at.2 and at.3) of users (at.0) at a point of a run (at.1).
 pub fn one_pick()
-    ghost at: { List User × Going × List (Option Pick) × List (Option Pick) }
-    requires apart { AreApart at.0 }
+    ghost at: { List User × Going × List (List Pick) × List (List Pick) }
     requires one { ArePicks at.0 at.1 at.2 }
     requires other { ArePicks at.0 at.1 at.3 }
     ensures { at.2 ≡ at.3 }
 {}
 
-/// Where no two users (at.0) have one thread, an entry (at.2) that a core (at.1) enters at a point
-/// of a run (at.3) leads to one point (at.4 and at.5).
+/// An entry (at.2) of users (at.0) that a core (at.1) enters at a point of a run (at.3) leads to one
+/// point (at.4 and at.5).
 pub fn one_turn()
     ghost at: { List User × CoreId × Pick × Going × Going × Going }
-    requires apart { AreApart at.0 }
     requires one { IsTurn at.0 at.1 at.2 at.3 at.4 }
     requires other { IsTurn at.0 at.1 at.2 at.3 at.5 }
     ensures { at.4 ≡ at.5 }

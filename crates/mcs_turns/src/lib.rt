@@ -10,7 +10,7 @@ mod reached;
 mod told;
 
 pub use laws::{one_pick, one_turn, run_legal, run_long};
-pub use position::{Pick, Position};
+pub use position::{Pick, Position, Schedule};
 pub use program::{Fill, Op, Saved, Settled, Slot, Source, Test, filled, goes_on, starts};
 pub use reached::Reached;
 pub use told::{Form, Told};

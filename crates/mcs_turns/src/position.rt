@@ -14,6 +14,17 @@ pub struct Position {
     pub saved: Saved,
 }
 
+/// Which threads a core may pick, of those that may enter there (own).
+#[derive(Clone, Copy, Drop)]
+pub enum Schedule {
+    /// That of the greatest priority, and of equal ones the lowest serial.
+    Serial,
+    /// Any of the greatest priority: what budgets that end in turn can bring.
+    Equal,
+    /// Any: what budgets that end at any point can bring.
+    Any,
+}
+
 /// An entry that a core picked: the number of the user, from 0, and that of the entry in the user's
 /// list, from 0.
 #[derive(Clone, Copy, Drop, Default)]

@@ -1,3 +1,4 @@
 mod Adding
 mod Order
 mod Coming
+mod Straight

@@ -1,5 +1,5 @@
 -- Users in order are of different threads, and stay in order with an entry more.
-use Rattle.std.specs.Prelude.{ℕ, zero, suc, Bool, true, false, nat_lt, cond, ◌≡◌, ◌<◌, ◌≤◌, List, [], ◌∷◌, Some, None, length, set, position, slice_get, if◌then◌else◌}
+use Rattle.std.specs.Prelude.{ℕ, zero, suc, Bool, true, false, nat_lt, cond, ◌≡◌, ◌<◌, ◌≤◌, List, [], ◌∷◌, Some, None, length, map, set, position, slice_get, if◌then◌else◌}
 use Rattle.std.specs.Prelude.{Result, Ok, Err}
 use Rattle.std.specs.Result.{OnOk, OnErr}
 use Rattle.std.specs.List.{AllByRecursion, position_or_len}
@@ -151,3 +151,12 @@ order-programmed p us i os fs h found = by (found-user p us i found).0 (found-us
   where
     by : (u : User) → slice_get us i ≡ Some u → AreInOrder (program_at us i os fs)
     by u at = subst (λ o. AreInOrder (elim o [ None ↦ us | Some v ↦ set us i (record v { ops = os; fills = fs }) ])) (sym at) (order-changed us i u (record u { ops = os; fills = fs }) refl at h)
+
+-- users with the same threads are in order too
+all-threads : (f : User → User) → ((u : User) → (f u).thread ≡ u.thread) → (x : User) (us : List User) → AllByRecursion (StandsBehind x) us → AllByRecursion (StandsBehind (f x)) (map f us)
+all-threads f same x [] all = tt
+all-threads f same x (u ∷ us) all = (same-before x (f x) (f u) (sym (same x)) (same-behind x u (f u) (sym (same u)) all.0), all-threads f same x us all.1)
+
+pub order-threads : (f : User → User) → ((u : User) → (f u).thread ≡ u.thread) → (us : List User) → AreInOrder us → AreInOrder (map f us)
+order-threads f same [] h = h
+order-threads f same (u ∷ us) h = (all-threads f same u us h.0, order-threads f same us h.1)

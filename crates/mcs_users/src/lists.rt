@@ -1,17 +1,17 @@
 //! A list of entries for each thread that has one, those of lower serials first.
-ghost use Rattle.std.specs.Prelude.{ℕ, ◌≡◌, ◌<◌, ◌≤◌, ◌∷◌, ◌++◌, [], true, false, IfOk, OnOk, OnErr, option_copied, position, slice_get, take, drop, set, length, Some};
+ghost use Rattle.std.specs.Prelude.{ℕ, ◌≡◌, ◌<◌, ◌≤◌, ◌∷◌, ◌++◌, [], true, false, IfOk, OnOk, OnErr, option_copied, position, slice_get, take, drop, set, length, map, Some};
 ghost use Rattle.mcs_types.specs.Ids.{same};
 ghost use Rattle.mcs_turns.specs.Turns.{User, is_program};
-ghost use Rattle.mcs_users.specs.Users.{again_at, begun_with, is_place_for, program_at, user_changes_slots, with_entry, with_more};
+ghost use Rattle.mcs_users.specs.Users.{again_at, begun_with, is_place_for, is_serial, gives_from, program_at, scheduled, straight, straightened, user_changes_slots, with_entry, with_more};
 
-use mcs_turns::{Fill, Op};
+use mcs_turns::{Fill, Op, Schedule};
 use mcs_types::{Entry, ObjId, OutOfMemory};
 use std::alloc::Global;
 use std::marker::Model;
 
 /// A thread, its entries, the number of the entry, from 0, with which a list goes on after the last
-/// (None where the last is its last), and its program with what it fills in. Without a program it
-/// gives its entries one after the other.
+/// (None where the last is its last), its program with what it fills in, and when its core picks it.
+/// Without a program it gives its entries one after the other.
 #[derive(Drop)]
 pub struct UserList {
     pub thread: ObjId,
@@ -19,6 +19,7 @@ pub struct UserList {
     pub again: Option<usize>,
     pub ops: Vec<Op>,
     pub fills: Vec<Fill>,
+    pub schedule: Schedule,
 }
 
 impl Model for UserList {
@@ -32,7 +33,18 @@ impl Model for UserList {
       again = l.again;
       ops = l.ops.items;
       fills = l.fills.items;
+      schedule = l.schedule;
     } };
+}
+
+/// Adds an element to the end. OutOfMemory where a growth was refused.
+fn push<T: Drop>(items: &mut Vec<T>, item: T) -> Result<(), OutOfMemory>
+    ensures { OnOk result (items.new.items ≡ items.old.items ++ item ∷ []) }
+{
+    match items.push(item) {
+        Ok(()) => Ok(()),
+        Err(_) => Err(OutOfMemory),
+    }
 }
 
 impl UserList {
@@ -48,6 +60,7 @@ impl UserList {
                 again: None,
                 ops: Vec::new(alloc),
                 fills: Vec::new(alloc),
+                schedule: Schedule::Serial,
             }),
             Err(_) => Err(OutOfMemory),
         }
@@ -72,6 +85,50 @@ impl UserList {
         ensures { result ≡ user_changes_slots self.now }
     {
         self.entries.iter().any(|entry| entry.changes_slots())
+    }
+
+    /// Returns whether its core picks its thread by the serial schedule.
+    pub fn is_serial(&self) -> bool
+        ensures { result ≡ is_serial self.now }
+    {
+        match self.schedule {
+            Schedule::Serial => true,
+            Schedule::Equal | Schedule::Any => false,
+        }
+    }
+
+    /// Sets the schedule by which its core picks its thread.
+    fn set_schedule(&mut self, schedule: Schedule)
+        ensures { self.new ≡ scheduled schedule self.old }
+    {
+        self.schedule = schedule;
+    }
+
+    /// Returns the program of its list. OutOfMemory where memory was refused.
+    fn straight(&self, alloc: Global) -> Result<Vec<Op>, OutOfMemory>
+        ensures { IfOk result (λ ops. ops.items ≡ straight self.now) }
+    {
+        let mut ops = Vec::with_capacity(alloc, self.entries.len())?;
+        for number in 0..self.entries.len() {
+            push(&mut ops, Op::Give(number))?;
+        }
+        if let Some(first) = self.again {
+            push(&mut ops, Op::Jump(first))?;
+        }
+        Ok(ops)
+    }
+
+    /// Gives it the program of its list, if it has none. OutOfMemory where memory was refused.
+    fn straightened(self, alloc: Global) -> Result<UserList, OutOfMemory>
+        ensures { IfOk result (λ l. l ≡ straightened self) }
+    {
+        if self.has_program() {
+            return Ok(self);
+        }
+        let ops = self.straight(alloc)?;
+        let mut list = self;
+        list.ops = ops;
+        Ok(list)
     }
 
     /// Adds an entry to the end. OutOfMemory where a growth was refused: then the list is as it
@@ -218,5 +275,29 @@ impl Lists {
         let list = &mut self.lists[place];
         list.ops = ops;
         list.fills = fills;
+    }
+
+    /// Sets the schedule by which cores pick the threads of all lists.
+    pub(crate) fn set_schedule(&mut self, schedule: Schedule)
+        ensures { self.new ≡ map (scheduled schedule) self.old }
+    {
+        for list in self.lists.iter_mut() {
+            list.set_schedule(schedule);
+        }
+    }
+
+    /// Gives each list its program, if it has none. OutOfMemory where memory was refused.
+    pub(crate) fn straightened(self) -> Result<Lists, OutOfMemory>
+        ensures { IfOk result (λ l. l ≡ map straightened self) }
+    {
+        let Lists { alloc, lists } = self;
+        let mut straight = Vec::with_capacity(alloc, lists.len())?;
+        for list in lists {
+            push(&mut straight, list.straightened(alloc)?)?;
+        }
+        Ok(Lists {
+            alloc,
+            lists: straight,
+        })
     }
 }

@@ -1,8 +1,8 @@
-//! What a core picked since its last line and whose user has not moved.
+//! What a core picks, and what it picked since its last line and whose user has not moved.
 ghost use Rattle.std.specs.Prelude.{◌≡◌, ◌∷◌, ◌++◌, [], IfOk, OnOk};
 ghost use Rattle.std.specs.List.{list_any};
-ghost use Rattle.mcs_turns.specs.Due.{is_same, with_any_pick, without_user};
-ghost use Rattle.mcs_users.specs.Picks.{without_any_user};
+ghost use Rattle.mcs_turns.specs.Due.{is_same, with_picks, without_user};
+ghost use Rattle.mcs_users.specs.Picks.{with_any_pick, without_any_user};
 
 use mcs_turns::Pick;
 use mcs_types::OutOfMemory;
@@ -105,24 +105,46 @@ impl Picks {
         Ok(Picks { picks })
     }
 
-    /// These and one more, if there is one and it is not among them. OutOfMemory where memory was
-    /// refused.
-    pub fn with(&self, alloc: Global, pick: Option<Pick>) -> Result<Picks, OutOfMemory>
-        ensures { IfOk result (λ p. p ≡ with_any_pick pick self.now) }
-    {
-        self.merged(alloc, pick, None)
-    }
-
-    /// These and one more, if there is one and it is not among them, without those of a user.
-    pub fn after(
+    /// These and more, each if it is not among them, without those of a user, if there is one.
+    fn merged_all(
         &self,
         alloc: Global,
-        pick: Option<Pick>,
-        user: usize,
+        picks: &Picks,
+        user: Option<usize>,
     ) -> Result<Picks, OutOfMemory>
-        ensures { IfOk result (λ p. p ≡ without_user user (with_any_pick pick self.now)) }
+        ensures { IfOk result (λ p. p ≡ without_any_user user (with_picks picks.now self.now)) }
     {
-        self.merged(alloc, pick, Some(user))
+        let more = picks.as_slice();
+        if more.len() < 2 {
+            return self.merged(alloc, more.first().copied(), user);
+        }
+        let mut all = self.copy(alloc)?;
+        for pick in more {
+            all = all.merged(alloc, Some(*pick), None)?;
+        }
+        all.merged(alloc, None, user)
+    }
+
+    /// These and more, each if it is not among them. OutOfMemory where memory was refused.
+    pub fn with(&self, alloc: Global, picks: &Picks) -> Result<Picks, OutOfMemory>
+        ensures { IfOk result (λ p. p ≡ with_picks picks.now self.now) }
+    {
+        self.merged_all(alloc, picks, None)
+    }
+
+    /// These and more, each if it is not among them, without those of a user. OutOfMemory where
+    /// memory was refused.
+    pub fn after(&self, alloc: Global, picks: &Picks, user: usize) -> Result<Picks, OutOfMemory>
+        ensures { IfOk result (λ p. p ≡ without_user user (with_picks picks.now self.now)) }
+    {
+        self.merged_all(alloc, picks, Some(user))
+    }
+
+    /// Adds a pick to the end. OutOfMemory where a growth was refused.
+    pub fn push(&mut self, pick: Pick) -> Result<(), OutOfMemory>
+        ensures { OnOk result (self.new ≡ self.old ++ pick ∷ []) }
+    {
+        add(&mut self.picks, pick)
     }
 
     /// The same picks once more. OutOfMemory where memory was refused.

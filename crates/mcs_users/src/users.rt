@@ -1,11 +1,12 @@
 //! Users: the entries of each of some threads.
-ghost use Rattle.std.specs.Prelude.{◌≡◌, [], OnOk, OnErr, option_copied, position, slice_get};
+ghost use Rattle.std.specs.Prelude.{◌≡◌, [], IfOk, OnOk, OnErr, map, option_copied, position, slice_get};
+ghost use Rattle.std.specs.List.{list_all};
 ghost use Rattle.mcs_types.specs.Ids.{same};
 ghost use Rattle.mcs_turns.specs.Turns.{User, AreApart};
-ghost use Rattle.mcs_users.specs.Users.{change_slots, with_again, with_entry, with_program};
+ghost use Rattle.mcs_users.specs.Users.{change_slots, is_serial, scheduled, straightened, with_again, with_entry, with_program};
 
 use crate::lists::{Lists, UserList};
-use mcs_turns::{Fill, Op};
+use mcs_turns::{Fill, Op, Schedule};
 use mcs_types::{Entry, ObjId, OutOfMemory};
 use std::alloc::Global;
 use std::marker::Model;
@@ -100,5 +101,30 @@ impl Users {
         if let Some(place) = self.lists.find(thread) {
             self.lists.program_at(place, ops, fills);
         }
+    }
+
+    /// Sets the schedule by which cores pick the threads of all users.
+    pub fn set_schedule(&mut self, schedule: Schedule)
+        ensures { self.new ≡ map (scheduled schedule) self.old }
+    {
+        self.lists.set_schedule(schedule);
+    }
+
+    /// Gives each user that has none the program of its list: so it gives no entry again that was
+    /// answered, also where its thread was restarted before it ran. OutOfMemory where memory was
+    /// refused.
+    pub fn straightened(self) -> Result<Users, OutOfMemory>
+        ensures { IfOk result (λ u. u ≡ map straightened self) }
+    {
+        let Users { lists } = self;
+        let lists = lists.straightened()?;
+        Ok(Users { lists })
+    }
+
+    /// Returns whether cores pick the threads of all users by the serial schedule.
+    pub fn are_serial(&self) -> bool
+        ensures { result ≡ list_all is_serial self.now }
+    {
+        self.lists().iter().all(|user| user.is_serial())
     }
 }

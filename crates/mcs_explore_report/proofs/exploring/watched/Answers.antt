@@ -28,7 +28,7 @@ returns-clause-ends g c =
     let w = c.in_ok-watched.watched in
     let o = c.in-Ok.orders in
     let kept = begun c.args.users.now w.asked.now w.lives.lives w.ends w.answers w.failed.items w.lives.notes c.in_ok-watched.ensures.ends c.in_ok-watched.ensures.answers c.in_ok-watched.ensures.failed c.in_ok-watched.ensures.notes in
-    let found = kept-found c.args.users.now c.are_apart.ensures c.args.boot.now o.search.map.entries o.search.done (c.in-Ok.ensures.shown kept) o.explorer.watch.asked.now o.explorer.watch.ends o.explorer.watch.answers o.explorer.watch.failed.items (λ shown has. has.kept) in
+    let found = kept-found c.args.users.now c.args.boot.now o.search.map.entries o.search.done (c.in-Ok.ensures.shown kept) o.explorer.watch.asked.now o.explorer.watch.ends o.explorer.watch.answers o.explorer.watch.failed.items (λ shown has. has.kept) in
     found.ends
 
 pub returns-clause-answers : goal.returns-clause-answers
@@ -36,7 +36,7 @@ returns-clause-answers g c =
     let w = c.in_ok-watched.watched in
     let o = c.in-Ok.orders in
     let kept = begun c.args.users.now w.asked.now w.lives.lives w.ends w.answers w.failed.items w.lives.notes c.in_ok-watched.ensures.ends c.in_ok-watched.ensures.answers c.in_ok-watched.ensures.failed c.in_ok-watched.ensures.notes in
-    let found = kept-found c.args.users.now c.are_apart.ensures c.args.boot.now o.search.map.entries o.search.done (c.in-Ok.ensures.shown kept) o.explorer.watch.asked.now o.explorer.watch.ends o.explorer.watch.answers o.explorer.watch.failed.items (λ shown has. has.kept) in
+    let found = kept-found c.args.users.now c.args.boot.now o.search.map.entries o.search.done (c.in-Ok.ensures.shown kept) o.explorer.watch.asked.now o.explorer.watch.ends o.explorer.watch.answers o.explorer.watch.failed.items (λ shown has. has.kept) in
     found.answers
 
 pub returns-clause-mail : goal.returns-clause-mail
@@ -44,7 +44,7 @@ returns-clause-mail g c =
     let w = c.in_ok-watched.watched in
     let o = c.in-Ok.orders in
     let kept = begun c.args.users.now w.asked.now w.lives.lives w.ends w.answers w.failed.items w.lives.notes c.in_ok-watched.ensures.ends c.in_ok-watched.ensures.answers c.in_ok-watched.ensures.failed c.in_ok-watched.ensures.notes in
-    let found = kept-found c.args.users.now c.are_apart.ensures c.args.boot.now o.search.map.entries o.search.done (c.in-Ok.ensures.shown kept) o.explorer.watch.asked.now o.explorer.watch.ends o.explorer.watch.answers o.explorer.watch.failed.items (λ shown has. has.kept) in
+    let found = kept-found c.args.users.now c.args.boot.now o.search.map.entries o.search.done (c.in-Ok.ensures.shown kept) o.explorer.watch.asked.now o.explorer.watch.ends o.explorer.watch.answers o.explorer.watch.failed.items (λ shown has. has.kept) in
     found.mail
 
 pub returns-clause-run_ends : goal.returns-clause-run_ends
@@ -56,7 +56,7 @@ returns-clause-run_ends g c = λ is.
     let w = c.in_ok-watched.watched in
     let o = c.in-Ok.orders in
     let kept = begun c.args.users.now w.asked.now w.lives.lives w.ends w.answers w.failed.items w.lives.notes c.in_ok-watched.ensures.ends c.in_ok-watched.ensures.answers c.in_ok-watched.ensures.failed c.in_ok-watched.ensures.notes in
-    let found = kept-found c.args.users.now c.are_apart.ensures c.args.boot.now o.search.map.entries o.search.done (c.in-Ok.ensures.shown kept) o.explorer.watch.asked.now o.explorer.watch.ends o.explorer.watch.answers o.explorer.watch.failed.items (λ shown has. has.kept) in
+    let found = kept-found c.args.users.now c.args.boot.now o.search.map.entries o.search.done (c.in-Ok.ensures.shown kept) o.explorer.watch.asked.now o.explorer.watch.ends o.explorer.watch.answers o.explorer.watch.failed.items (λ shown has. has.kept) in
     ends-in-runs is.numbered c.args.users.now c.args.boot.now c.is_faultless.ensures c.are_in_range.ensures o.search.map.entries o.search.done is.all seen o.explorer.watch.ends found.ends
 
 pub returns-clause-run_answers : goal.returns-clause-run_answers
@@ -68,7 +68,7 @@ returns-clause-run_answers g c = λ is.
     let w = c.in_ok-watched.watched in
     let o = c.in-Ok.orders in
     let kept = begun c.args.users.now w.asked.now w.lives.lives w.ends w.answers w.failed.items w.lives.notes c.in_ok-watched.ensures.ends c.in_ok-watched.ensures.answers c.in_ok-watched.ensures.failed c.in_ok-watched.ensures.notes in
-    let found = kept-found c.args.users.now c.are_apart.ensures c.args.boot.now o.search.map.entries o.search.done (c.in-Ok.ensures.shown kept) o.explorer.watch.asked.now o.explorer.watch.ends o.explorer.watch.answers o.explorer.watch.failed.items (λ shown has. has.kept) in
+    let found = kept-found c.args.users.now c.args.boot.now o.search.map.entries o.search.done (c.in-Ok.ensures.shown kept) o.explorer.watch.asked.now o.explorer.watch.ends o.explorer.watch.answers o.explorer.watch.failed.items (λ shown has. has.kept) in
     answers-in-runs is.numbered c.args.users.now c.args.boot.now c.is_faultless.ensures c.are_in_range.ensures o.search.map.entries o.search.done is.all seen o.explorer.watch.answers found.answers found.mail
 
 pub returns-clause-judged : goal.returns-clause-judged
@@ -76,7 +76,7 @@ returns-clause-judged g c =
     let w = c.in_ok-watched.watched in
     let o = c.in-Ok.orders in
     let kept = begun c.args.users.now w.asked.now w.lives.lives w.ends w.answers w.failed.items w.lives.notes c.in_ok-watched.ensures.ends c.in_ok-watched.ensures.answers c.in_ok-watched.ensures.failed c.in_ok-watched.ensures.notes in
-    let found = kept-found c.args.users.now c.are_apart.ensures c.args.boot.now o.search.map.entries o.search.done (c.in-Ok.ensures.shown kept) o.explorer.watch.asked.now o.explorer.watch.ends o.explorer.watch.answers o.explorer.watch.failed.items (λ shown has. has.kept) in
+    let found = kept-found c.args.users.now c.args.boot.now o.search.map.entries o.search.done (c.in-Ok.ensures.shown kept) o.explorer.watch.asked.now o.explorer.watch.ends o.explorer.watch.answers o.explorer.watch.failed.items (λ shown has. has.kept) in
     let same = ap (λ (a : Aims). a.asked) c.in-Ok.ensures.aim ∙ c.in_ok-watched.ensures.asked in
     subst (λ (qs : List AskedLine). AreJudgedFound c.args.users.now c.args.boot.now o.search.map.entries o.search.done qs o.explorer.watch.failed.items) same found.judged
 
@@ -89,7 +89,7 @@ returns-clause-held g c = λ is.
     let w = c.in_ok-watched.watched in
     let o = c.in-Ok.orders in
     let kept = begun c.args.users.now w.asked.now w.lives.lives w.ends w.answers w.failed.items w.lives.notes c.in_ok-watched.ensures.ends c.in_ok-watched.ensures.answers c.in_ok-watched.ensures.failed c.in_ok-watched.ensures.notes in
-    let found = kept-found c.args.users.now c.are_apart.ensures c.args.boot.now o.search.map.entries o.search.done (c.in-Ok.ensures.shown kept) o.explorer.watch.asked.now o.explorer.watch.ends o.explorer.watch.answers o.explorer.watch.failed.items (λ shown has. has.kept) in
+    let found = kept-found c.args.users.now c.args.boot.now o.search.map.entries o.search.done (c.in-Ok.ensures.shown kept) o.explorer.watch.asked.now o.explorer.watch.ends o.explorer.watch.answers o.explorer.watch.failed.items (λ shown has. has.kept) in
     let same = ap (λ (a : Aims). a.asked) c.in-Ok.ensures.aim ∙ c.in_ok-watched.ensures.asked in
     let judged = subst (λ (qs : List AskedLine). AreJudgedFound c.args.users.now c.args.boot.now o.search.map.entries o.search.done qs o.explorer.watch.failed.items) same found.judged in
     all-held is.numbered c.args.users.now c.args.boot.now o.search.map.entries o.search.done c.args.asked.now o.explorer.watch.failed.items judged c.is_faultless.ensures c.are_in_range.ensures is.all seen
@@ -100,14 +100,14 @@ returns-clause-counts g c =
     let w = c.in_ok-watched.watched in
     let o = c.in-Ok.orders in
     let kept = begun c.args.users.now w.asked.now w.lives.lives w.ends w.answers w.failed.items w.lives.notes c.in_ok-watched.ensures.ends c.in_ok-watched.ensures.answers c.in_ok-watched.ensures.failed c.in_ok-watched.ensures.notes in
-    counted-found c.args.users.now c.are_apart.ensures c.args.boot.now o.search.map.entries o.search.done (c.in-Ok.ensures.shown kept)
+    counted-found c.args.users.now c.args.boot.now o.search.map.entries o.search.done (c.in-Ok.ensures.shown kept)
 
 pub returns-clause-first : goal.returns-clause-first
 returns-clause-first g c =
     let w = c.in_ok-watched.watched in
     let o = c.in-Ok.orders in
     let kept = begun c.args.users.now w.asked.now w.lives.lives w.ends w.answers w.failed.items w.lives.notes c.in_ok-watched.ensures.ends c.in_ok-watched.ensures.answers c.in_ok-watched.ensures.failed c.in_ok-watched.ensures.notes in
-    let found = kept-found c.args.users.now c.are_apart.ensures c.args.boot.now o.search.map.entries o.search.done (c.in-Ok.ensures.shown kept) o.explorer.watch.asked.now o.explorer.watch.ends o.explorer.watch.answers o.explorer.watch.failed.items (λ shown has. has.kept) in
+    let found = kept-found c.args.users.now c.args.boot.now o.search.map.entries o.search.done (c.in-Ok.ensures.shown kept) o.explorer.watch.asked.now o.explorer.watch.ends o.explorer.watch.answers o.explorer.watch.failed.items (λ shown has. has.kept) in
     let same = ap (λ (a : Aims). a.asked) c.in-Ok.ensures.aim ∙ c.in_ok-watched.ensures.asked in
     subst (λ (qs : List AskedLine). AreFirstFound c.args.users.now c.args.boot.now o.search.map.entries o.search.done qs o.explorer.watch.ends o.explorer.watch.answers o.explorer.watch.failed.items) same found.first
 
@@ -120,7 +120,7 @@ returns-clause-shortest g c = λ is.
     let w = c.in_ok-watched.watched in
     let o = c.in-Ok.orders in
     let kept = begun c.args.users.now w.asked.now w.lives.lives w.ends w.answers w.failed.items w.lives.notes c.in_ok-watched.ensures.ends c.in_ok-watched.ensures.answers c.in_ok-watched.ensures.failed c.in_ok-watched.ensures.notes in
-    let found = kept-found c.args.users.now c.are_apart.ensures c.args.boot.now o.search.map.entries o.search.done (c.in-Ok.ensures.shown kept) o.explorer.watch.asked.now o.explorer.watch.ends o.explorer.watch.answers o.explorer.watch.failed.items (λ shown has. has.kept) in
+    let found = kept-found c.args.users.now c.args.boot.now o.search.map.entries o.search.done (c.in-Ok.ensures.shown kept) o.explorer.watch.asked.now o.explorer.watch.ends o.explorer.watch.answers o.explorer.watch.failed.items (λ shown has. has.kept) in
     let same = ap (λ (a : Aims). a.asked) c.in-Ok.ensures.aim ∙ c.in_ok-watched.ensures.asked in
     let first = subst (λ (qs : List AskedLine). AreFirstFound c.args.users.now c.args.boot.now o.search.map.entries o.search.done qs o.explorer.watch.ends o.explorer.watch.answers o.explorer.watch.failed.items) same found.first in
     all-shortest is.numbered c.args.users.now c.args.boot.now c.is_faultless.ensures c.are_in_range.ensures o.search.map.entries o.search.done is.all seen c.in-Ok.ensures.sorted c.args.asked.now o.explorer.watch.ends o.explorer.watch.answers o.explorer.watch.failed.items first
@@ -139,7 +139,7 @@ returns-clause-decided g c = λ is.
     let shown = c.in-Ok.ensures.shown kept in
     let same = ap (λ (a : Aims). a.lives) c.in-Ok.ensures.aim ∙ c.in_ok-watched.ensures.lives in
     subst (λ (ls : List Live). AreDecided c.args.users.now c.args.boot.now ls o.search.map.entries o.search.edges.items o.explorer.watch.lives.notes) same
-    (decided is.numbered c.args.users.now c.are_apart.ensures c.args.boot.now c.is_faultless.ensures c.are_in_range.ensures o.search.map.entries o.search.done o.search.edges.items graph shown.shown shown.are o.explorer.watch.lives.lives o.explorer.watch.lives.notes shown.has.has.noted is.all seen)
+    (decided is.numbered c.args.users.now c.args.boot.now c.is_faultless.ensures c.are_in_range.ensures o.search.map.entries o.search.done o.search.edges.items graph shown.shown shown.are o.explorer.watch.lives.lives o.explorer.watch.lives.notes shown.has.has.noted is.all seen)
 
 pub returns-clause-stuck : goal.returns-clause-stuck
 returns-clause-stuck g c = λ number is.
@@ -153,4 +153,4 @@ returns-clause-stuck g c = λ number is.
     let shown = c.in-Ok.ensures.shown kept in
     let same = ap (λ (a : Aims). a.lives) c.in-Ok.ensures.aim ∙ c.in_ok-watched.ensures.lives in
     subst (λ (ls : List Live). AreStuckUnled c.args.users.now c.args.boot.now ls o.search.map.entries o.search.edges.items o.explorer.watch.lives.notes) same
-    (unled-stuck number c.args.users.now c.are_apart.ensures c.args.boot.now c.is_faultless.ensures c.are_in_range.ensures o.search.map.entries o.search.done o.search.edges.items graph shown.shown shown.are o.explorer.watch.lives.lives o.explorer.watch.lives.notes shown.has.has.noted)
+    (unled-stuck number c.args.users.now c.args.boot.now c.is_faultless.ensures c.are_in_range.ensures o.search.map.entries o.search.done o.search.edges.items graph shown.shown shown.are o.explorer.watch.lives.lives o.explorer.watch.lives.notes shown.has.has.noted)

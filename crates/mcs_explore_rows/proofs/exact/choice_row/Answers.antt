@@ -12,6 +12,6 @@ loop-core-preserved g c =
     let core = c.loop-core.core in
     numbers-next row c.put_any_choices.new.row.items (λ i. option_numbers (list_numbers pick_numbers) (slice_get (choices c.args.picks.now c.args.walk.now.stale) i)) core
     (c.in_ok-put_any_choices.ensures
-    ∙ ap (λ o. row ++ option_numbers (choice_list_numbers c.picked-pick.result) o) c.stale.ensures
-    ∙ ap (λ p. row ++ option_numbers (choice_list_numbers p) (slice_get c.args.walk.now.stale core)) c.picked-pick.ensures
+    ∙ ap (λ o. row ++ option_numbers (choice_list_numbers c.picked-picks.result.now) o) c.stale.ensures
+    ∙ ap (λ p. row ++ option_numbers (choice_list_numbers p) (slice_get c.args.walk.now.stale core)) c.picked-picks.ensures
     ∙ ap (λ ns. row ++ ns) (choices-at c.args.picks.now c.args.walk.now.stale core)) c.loop-core.invariant

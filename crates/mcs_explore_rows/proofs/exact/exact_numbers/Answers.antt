@@ -1,5 +1,5 @@
 use Rattle.std.proofs.Common.{ap, subst, ◌∙◌}
-use Rattle.std.specs.Prelude.{List, Option}
+use Rattle.std.specs.Prelude.{List}
 use Rattle.mcs_book.specs.History.{Book, log_of}
 use Rattle.mcs_turns.specs.declared.position.Pick.{Pick}
 use Rattle.mcs_turns.proofs.OneTurn.{one-picks}
@@ -22,6 +22,6 @@ returns-clause-named g c =
     record {
       picks = picks;
       are = c.requires;
-      so = λ ks are. subst (λ (js : List (Option Pick)). Names c.put_objects.new.met c.put_objects.new.numbers.items (rows_of c.args.numbered c.args.users.now c.args.walk.now js))
-          (one-picks c.args.users.now c.args.walk.now picks ks c.are_apart.ensures c.requires are) named;
+      so = λ ks are. subst (λ (js : List (List Pick)). Names c.put_objects.new.met c.put_objects.new.numbers.items (rows_of c.args.numbered c.args.users.now c.args.walk.now js))
+          (one-picks c.args.users.now c.args.walk.now picks ks c.requires are) named;
     }

@@ -2,7 +2,7 @@ use Rattle.std.specs.Prelude.{ℕ, ◌≡◌, ◌++◌, ◌∷◌, [], Vec, IfNo
 use Rattle.std.specs.declared.alloc.Global.{Global}
 use Rattle.std.proofs.Common.{ap, sym, subst, ◌∙◌}
 use mathlib.Core.List.{map-append}
-use Rattle.mcs_turns.specs.Turns.{Going, AreApart}
+use Rattle.mcs_turns.specs.Turns.{Going}
 use Rattle.mcs_explore_walk.specs.declared.walk.Turn.{Turn}
 use Rattle.mcs_explore_orders.specs.Trails.{Leads}
 use Rattle.mcs_explore_orders.specs.Exploring.{AreNextsOf, IsKeyIn, numbers_of}
@@ -23,10 +23,9 @@ returns-in_ok-push-clause-nexts g c = λ ts are.
     let numbers : numbers_of c.push.new.nexts.items ≡ numbers_of c.args.nexts.now.items ++ (c.args.turn, key.items) ∷ [] =
     ap numbers_of c.in_ok-push.ensures ∙ map-append (λ (n : Turn × Vec ℕ Global). (n.0, n.1.items)) c.args.nexts.now.items (next ∷ [])
     ∙ ap (λ (t : Turn). numbers_of c.args.nexts.now.items ++ (t, key.items) ∷ []) c.in_ok-label.ensures in
-    let apart = subst AreApart (ap (λ (e : Watching _). e.search.users) c.self.view_is) c.are_apart.ensures in
     let some = subst (λ o. IfSome o (λ (k : Vec ℕ Global). (h : Going) × (Leads old.users c.args.turn at h × IsKeyIn new h k.items))) c.in-Some.is c.in_ok-key.ensures.some in
     subst (λ ns. AreNextsOf new at (ts ++ c.args.turn ∷ []) ns) (sym numbers)
-    (one-more old new c.in_ok-key.ensures.later.search at apart ts c.args.turn (numbers_of c.args.nexts.now.items) key.items some are)
+    (one-more old new c.in_ok-key.ensures.later.search at ts c.args.turn (numbers_of c.args.nexts.now.items) key.items some are)
 
 pub returns-in_default-clause-nexts : goal.returns-in_default-clause-nexts
 returns-in_default-clause-nexts g c = λ ts are.
@@ -40,9 +39,8 @@ returns-in_ok-push-clause-told g c =
     let old = c.args.self.now in
     let new = c.behind.new.self in
     let at = c.args.walk.value in
-    let apart = subst AreApart (ap (λ (e : Watching _). e.search.users) c.self.view_is) c.are_apart.ensures in
     let told = subst (λ o. IfSome o (λ (k : Vec ℕ Global). IsToldTurn (HasCounted g.W.Watch.HasSeen) (counting old) (counting new) old.search.users c.args.place c.args.turn at)) c.in-Some.is c.in_ok-key.ensures.told in
-    one-told (HasCounted g.W.Watch.HasSeen) (counting old) (counting new) old.search.users apart c.args.place at c.args.turn told
+    one-told (HasCounted g.W.Watch.HasSeen) (counting old) (counting new) old.search.users c.args.place at c.args.turn told
 
 pub returns-in_default-clause-told : goal.returns-in_default-clause-told
 returns-in_default-clause-told g c =

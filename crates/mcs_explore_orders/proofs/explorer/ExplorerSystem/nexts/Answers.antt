@@ -32,7 +32,7 @@ returns-clause-seen g c =
     let later = c.in_ok-nexts.ensures.later in
     let each = subst (λ us. HasEachTurn us walk turns) (sym same_users) (subst (λ w. HasEachTurn users w turns) c.deref-2.ensures (subst (λ (ts : List Turn). HasEachTurn users c.deref-2.result.now ts) (sym c.deref-7.ensures.value) c.in_ok-turns.ensures.all)) in
     let state = subst (λ w. IsToldState (HasCounted g.W.Watch.HasSeen) (record { watch = c.self.inside.watch; turns = c.self.inside.turns; ends = c.self.inside.ends }) (counting told) users c.args.place w) c.deref-4.ensures c.in_ok-report.ensures.told in
-    rw (← c.self.view_is) (seen-nexts (HasCounted g.W.Watch.HasSeen) (record { watch = c.self.inside.watch; turns = c.self.inside.turns; ends = c.self.inside.ends }) (counting told) (counting now) users c.are_apart.ensures boot c.args.path.now told.search now.search c.args.place walk turns
+    rw (← c.self.view_is) (seen-nexts (HasCounted g.W.Watch.HasSeen) (record { watch = c.self.inside.watch; turns = c.self.inside.turns; ends = c.self.inside.ends }) (counting told) (counting now) users boot c.args.path.now told.search now.search c.args.place walk turns
     end same_users (later.search.users ∙ same_users) (later.search.boot ∙ same_boot) each state c.in_ok-nexts.ensures.told)
 
 pub returns-clause-nexts : goal.returns-clause-nexts
@@ -44,5 +44,5 @@ returns-clause-nexts g c =
     let end = subst (λ s. Path (Leads users) s c.args.path.now walk) c.self.invariant.0 c.in_ok-walk.ensures.walk in
     let same_users = ap (λ (e : Exploring). e.users) c.in_ok-report.ensures.search in
     let each = subst (λ us. HasEachTurn us walk turns) (sym same_users) (subst (λ w. HasEachTurn users w turns) c.deref-2.ensures (subst (λ (ts : List Turn). HasEachTurn users c.deref-2.result.now ts) (sym c.deref-7.ensures.value) c.in_ok-turns.ensures.all)) in
-    rw (← c.self.view_is) (all-nexts users c.are_apart.ensures (beginning users c.self.inside.boot.now) c.args.path.now told.search c.nexts_by.new.self.search walk turns c.in_ok-nexts.nexts.items
+    rw (← c.self.view_is) (all-nexts users (beginning users c.self.inside.boot.now) c.args.path.now told.search c.nexts_by.new.self.search walk turns c.in_ok-nexts.nexts.items
     end same_users c.in_ok-nexts.ensures.later.search each c.in_ok-nexts.ensures.nexts)

@@ -17,7 +17,7 @@ step-requires c =
     let kept = c.loop-at.invariant in
     let now = c.loop-at.self in
     let leads : (s : Going) × Path (Leads c.args.users.now) now.start c.args.path.now s = (c.requires.path.0, subst (λ g. Path (Leads c.args.users.now) g c.args.path.now c.requires.path.0) (sym kept.0) c.requires.path.1) in
-    leads-on c.args.users.now c.are_apart.ensures now.start now.points c.args.path.now c.loop-at.at (c.saturating_add-end.result - c.loop-at.at) kept.1 kept.2 leads
+    leads-on c.args.users.now now.start now.points c.args.path.now c.loop-at.at (c.saturating_add-end.result - c.loop-at.at) kept.1 kept.2 leads
 
 pub loop-at-preserved : goal.loop-at-preserved
 loop-at-preserved c =

@@ -20,5 +20,5 @@ returns-clause-walk c =
     let rest : c.deref-3.result.now ≡ path = c.deref-3.ensures.value ∙ c.in_ok-turns.ensures in
     let along : turns_of now.points ≡ take at path = c.in_ok-at.ensures.turns ∙ ap (λ (ts : List Turn). take at ts) same in
     let here : c.deref_mut.result.now ≡ last_point start now.points = c.deref_mut.ensures.value ∙ c.in_ok-walk.ensures.walk ∙ ap (λ g. last_point g now.points) begins in
-    arrives users c.are_apart.ensures start now.points path at c.follow.new.walk trail along c.requires.path
+    arrives users start now.points path at c.follow.new.walk trail along c.requires.path
     (λ h leads. c.in_ok-follow.ensures.path h (subst (λ (ts : List Turn). Path (Leads users) c.deref_mut.result.now ts h) (sym (rest-all c.deref-3.result.now at ∙ ap (λ (ts : List Turn). drop at ts) rest)) (subst (λ g. Path (Leads users) g (drop at path) h) (sym here) leads)))

@@ -8,7 +8,7 @@ use Rattle.mcs_explore_walk.proofs.walk.Walk.entrant.Goals as goal
 
 pub returns-then-not-may_take-clause-none : goal.returns-then-not-may_take-clause-none
 returns-then-not-may_take-clause-none g c =
-    not-picked c.args.users.now c.args.self.now c.args.picks.now c.args.turn.core c.args.turn.pick c.are_apart.ensures c.requires (c.may_take.ensures.no c.if-not-may_take.true)
+    not-picked c.args.users.now c.args.self.now c.args.picks.now c.args.turn.core c.args.turn.pick c.requires (c.may_take.ensures.no c.if-not-may_take.true)
 
 pub returns-clause-some : goal.returns-clause-some
 returns-clause-some g c =

@@ -12,7 +12,7 @@ returns-clause-all g c =
     let legal : IsLegal c.args.self.now.book = subst (λ (b : Book). IsLegal b) c.kernel.ensures c.book.ensures.legal in
     IfOk-weaker c.turns_below.result _ _ (λ v is.
     subst (λ (ts : List Turn). HasEachTurn c.args.users.now c.args.self.now ts) (sym (is ∙ ap (λ n. turns_below c.args.self.now c.args.picks.now n) all))
-    (each-below c.args.users.now c.args.self.now c.args.picks.now c.are_apart.ensures legal c.requires)) c.turns_below.ensures
+    (each-below c.args.users.now c.args.self.now c.args.picks.now legal c.requires)) c.turns_below.ensures
 
 pub returns-clause-picked : goal.returns-clause-picked
 returns-clause-picked g c =

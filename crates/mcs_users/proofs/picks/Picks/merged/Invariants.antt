@@ -1,6 +1,5 @@
 use Rattle.std.proofs.Common.{◌≡◌, ◌++◌, drop}
-use Rattle.mcs_turns.specs.Due.{with_any_pick}
-use Rattle.mcs_users.specs.Picks.{without_any_user}
+use Rattle.mcs_users.specs.Picks.{with_any_pick, without_any_user}
 use Rattle.mcs_users.proofs.picks.Picks.merged.Given as goal
 
 abbrev pub invariant-loop-other : goal.invariant-loop-other
