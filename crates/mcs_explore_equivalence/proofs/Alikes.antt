@@ -1,5 +1,5 @@
 -- Turns respect the likeness of runs.
-use Rattle.std.specs.Prelude.{ℕ, suc, ◌≡◌, ◌≤◌, ◌<◌, ◌⊎◌, Bool, true, false, length, List, Some, slice_get}
+use Rattle.std.specs.Prelude.{ℕ, suc, ◌≡◌, ◌≤◌, ◌<◌, ◌⊎◌, Bool, true, false, length, List, Some, None, slice_get}
 use Rattle.std.specs.List.{Contains}
 use Rattle.std.proofs.Common.{refl, ap, sym, ◌∙◌, subst, inl, inr}
 use Rattle.mcs_types.specs.declared.id.ObjId.{ObjId}
