@@ -264,7 +264,7 @@ pub fn put_stale<L: Lines>(
         return Ok(());
     };
     for stale in stale.as_slice() {
-        if !picks.iter().any(|pick| pick.is_same(*stale)) {
+        if !has(picks, *stale) {
             row.push(core.0 as u64)?;
             row.push(stale.user as u64)?;
             row.push(stale.number as u64)?;

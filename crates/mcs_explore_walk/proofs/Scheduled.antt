@@ -194,16 +194,17 @@ module _ (users : List User) (g : Going) (core : CoreId) where
   -- all users go by the serial schedule: the best alone
   is-serial : (us : List User) (i : ℕ) (u : User) → list_all is_serial us ≡ true → slice_get us i ≡ Some u → u.schedule ≡ schedule.Serial
   is-serial [] i u all at = absurd cc
-  is-serial (v ∷ us) i u all at = go i (parts (is_serial v) (list_all is_serial us) all) at
+  is-serial (v ∷ us) i u all at = go (is-serial us) i (parts (is_serial v) (list_all is_serial us) all) at
     where
       by : (s : Schedule) (w : User) → w.schedule ≡ s → is_serial w ≡ true → w.schedule ≡ schedule.Serial
       by schedule.Serial w e is = e
       by schedule.Equal w e is = let wrong : is_serial w ≡ false = rw e refl in absurd cc
       by schedule.Any w e is = let wrong : is_serial w ≡ false = rw e refl in absurd cc
 
-      go : (n : ℕ) → (is_serial v ≡ true) × (list_all is_serial us ≡ true) → slice_get (v ∷ us) n ≡ Some u → u.schedule ≡ schedule.Serial
-      go zero h at = let first : v ≡ u = cc in by u.schedule u refl (subst (λ w. is_serial w ≡ true) first h.0)
-      go (suc n) h at = is-serial us n u h.1 at
+      go : ((n : ℕ) (w : User) → list_all is_serial us ≡ true → slice_get us n ≡ Some w → w.schedule ≡ schedule.Serial)
+          → (n : ℕ) → (is_serial v ≡ true) × (list_all is_serial us ≡ true) → slice_get (v ∷ us) n ≡ Some u → u.schedule ≡ schedule.Serial
+      go rest zero h at = let first : v ≡ u = cc in by u.schedule u refl (subst (λ w. is_serial w ≡ true) first h.0)
+      go rest (suc n) h at = rest n u h.1 at
 
   pub picked-serial : AreApart users → (best : Pick) → IsBest users g core best → list_all is_serial users ≡ true → (ks : List Pick) → ks ≡ best ∷ [] → ArePicksOf users g core ks
   picked-serial apart best is serial ks one = subst (λ js. ArePicksOf users g core js) (sym one) (record {
@@ -275,3 +276,12 @@ best-there users g best core low are = go (slice_get best core.0) refl (within b
       where
         is : (p : Option Pick) → slice_get best core.0 ≡ Some p → best_at best core.0 ≡ p
         is p h = rw h refl
+
+-- what a test is whose contrary is known
+pub off : (b : Bool) → not b ≡ true → b ≡ false
+off true e = absurd cc
+off false e = refl
+
+pub on : (b : Bool) → not b ≡ false → b ≡ true
+on true e = refl
+on false e = absurd cc

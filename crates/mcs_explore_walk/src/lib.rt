@@ -14,4 +14,4 @@ pub use fault::OrdersFault;
 pub use mail::newest;
 pub use mcs_turns::{Pick, Position};
 pub use mcs_users::{Picks, UserList, Users};
-pub use walk::{Turn, Walk, picked};
+pub use walk::{Turn, Walk, has, picked};

@@ -1,5 +1,5 @@
 //! What each core may pick, by the schedules of its users.
-ghost use Rattle.std.specs.Prelude.{◌≡◌, ◌≤◌, ◌×◌, true, false, Some, nat_lt, slice_get, IfNone, IfOk, IfSome};
+ghost use Rattle.std.specs.Prelude.{◌≡◌, ◌≤◌, true, false, Some, nat_lt, slice_get, IfNone, IfOk, IfSome};
 ghost use Rattle.mcs_book.specs.History.{log_of};
 ghost use Rattle.mcs_book.specs.Threads.{prio_of};
 ghost use Rattle.mcs_turns.specs.declared.position.Pick.{Pick};

@@ -4,7 +4,7 @@ ghost use Rattle.mcs_turns.specs.Turns.{ArePicks};
 ghost use Rattle.mcs_explore_walk.specs.Walks.{ArePicked, HasEachTurn, is_other, stale_turns, turn_of, turns_below, turns_of, turns_on};
 
 use crate::copies::push;
-use crate::walk::{Turn, Walk, picked};
+use crate::walk::{Turn, Walk, has, picked};
 use mcs_queues::Lines;
 use mcs_turns::Pick;
 use mcs_types::{CoreId, OutOfMemory};
@@ -15,7 +15,7 @@ use std::alloc::Global;
 fn is_other(picks: &[Pick], pick: Pick) -> bool
     ensures { result ≡ is_other picks.now pick }
 {
-    !picks.iter().any(|other| pick.is_same(*other))
+    !has(picks, pick)
 }
 
 /// Adds the turn of a core that enters this, unless it is among what the core picks now.

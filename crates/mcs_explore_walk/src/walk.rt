@@ -1,13 +1,13 @@
 //! A kernel, how far each user is, and what each core may enter.
 ghost use Rattle.std.specs.Prelude.{◌≡◌, ◌≤◌, ◌<◌, ◌+◌, ◌^◌, ℕ, true, false, [], IfOk, IfSome, IfNone, OnOk, OnErr, Some, length, map, replicate, slice_get, option_copied};
-ghost use Rattle.std.specs.List.{Contains};
+ghost use Rattle.std.specs.List.{Contains, list_any};
 ghost use Rattle.mcs_types.specs.declared.id.ObjId.{ObjId};
 ghost use Rattle.mcs_book.specs.History.{IsLegal, log_of};
 ghost use Rattle.mcs_book.specs.Picking.{GoesBefore};
 ghost use Rattle.mcs_book.specs.Statuses.{is_ready, may_enter, status_of};
 ghost use Rattle.mcs_book.specs.Threads.{prio_of};
 ghost use Rattle.mcs_turns.specs.declared.position.Position.{Position};
-ghost use Rattle.mcs_turns.specs.Due.{none_stale, picks_at, stale_after};
+ghost use Rattle.mcs_turns.specs.Due.{is_same, none_stale, picks_at, stale_after};
 ghost use Rattle.mcs_turns.specs.Mail.{brought};
 ghost use Rattle.mcs_turns.specs.Turns.{Going, IsStale, ArePicks, IsOver, IsTurn, Follows, all_told, beginning, entered, put_at, saved_at, started};
 ghost use Rattle.mcs_explore_walk.specs.Walks.{AreBest, AreBestBelow, EntersSomewhere, HasEachTurn, HasNoTurn, IsBestBelow, IsEntrant, IsEntryCore, IsOffer, IsPicked, is_let_in, last_answer, left_stale, step_of};
@@ -186,14 +186,19 @@ fn no_picks(alloc: Global, cores: u8) -> Result<Vec<Option<Pick>>, OutOfMemory>
     Ok(picks)
 }
 
+/// Returns whether a pick is among these.
+pub fn has(picks: &[Pick], pick: Pick) -> bool
+    ensures { result ≡ list_any (is_same pick) picks.now }
+{
+    picks.iter().any(|other| pick.is_same(*other))
+}
+
 /// Whether a core picks this, where the cores have these picks.
 fn is_picked(picks: &[Picks], turn: Turn) -> bool
     ensures yes { result ≡ true → Contains (picks_at picks.now turn.core.0) turn.pick }
     ensures no { result ≡ false → Contains (picks_at picks.now turn.core.0) turn.pick → ⊥ }
 {
-    picked(picks, turn.core.0 as usize)
-        .iter()
-        .any(|pick| turn.pick.is_same(*pick))
+    has(picked(picks, turn.core.0 as usize), turn.pick)
 }
 
 impl<L: Lines> Walk<L> {

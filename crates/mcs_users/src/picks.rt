@@ -109,12 +109,11 @@ impl Picks {
     fn merged_all(
         &self,
         alloc: Global,
-        picks: &Picks,
+        more: &[Pick],
         user: Option<usize>,
     ) -> Result<Picks, OutOfMemory>
-        ensures { IfOk result (λ p. p ≡ without_any_user user (with_picks picks.now self.now)) }
+        ensures { IfOk result (λ p. p ≡ without_any_user user (with_picks more.now self.now)) }
     {
-        let more = picks.as_slice();
         if more.len() < 2 {
             return self.merged(alloc, more.first().copied(), user);
         }
@@ -126,7 +125,7 @@ impl Picks {
     }
 
     /// These and more, each if it is not among them. OutOfMemory where memory was refused.
-    pub fn with(&self, alloc: Global, picks: &Picks) -> Result<Picks, OutOfMemory>
+    pub fn with(&self, alloc: Global, picks: &[Pick]) -> Result<Picks, OutOfMemory>
         ensures { IfOk result (λ p. p ≡ with_picks picks.now self.now) }
     {
         self.merged_all(alloc, picks, None)
@@ -134,7 +133,7 @@ impl Picks {
 
     /// These and more, each if it is not among them, without those of a user. OutOfMemory where
     /// memory was refused.
-    pub fn after(&self, alloc: Global, picks: &Picks, user: usize) -> Result<Picks, OutOfMemory>
+    pub fn after(&self, alloc: Global, picks: &[Pick], user: usize) -> Result<Picks, OutOfMemory>
         ensures { IfOk result (λ p. p ≡ without_user user (with_picks picks.now self.now)) }
     {
         self.merged_all(alloc, picks, Some(user))

@@ -51,6 +51,9 @@ Lines that begin with `#! ` ask of all orders (mcslab explore), in scripts and i
                                     answered 2: 1..=2
   #! before t1 2 t2 3               the second entry of t1 is given before the third of t2
   #! again t1 2                     behind its last entry t1 goes on with its second
+  #! schedule equal                 a core picks any thread of the greatest priority; any: any that
+                                    may enter; serial, the default: as mcssim run does
+  #! resumed goes on                an entry that was answered is not given again
 In a pattern `*` stands for a word and `**` for the rest. A name of a line `#@`, or of the plan, stands
 for its object.
 ";
