@@ -267,7 +267,7 @@ impl Progress for Meter<'_> {
 }
 
 /// Writes each piece at once: what a search found is written before its scripts are kept, whatever
-/// ends the program then.
+/// ends the program then. What can't be written stays with the writer, whose last flush tells it.
 #[derive(Drop)]
 struct Prompt<W> {
     to: W,
@@ -276,7 +276,7 @@ struct Prompt<W> {
 impl<W: Write> Write for Prompt<W> {
     fn write(&mut self, piece: &[u8]) -> io::Result<usize> {
         let count = self.to.write(piece)?;
-        self.to.flush()?;
+        let _ = self.to.flush();
         Ok(count)
     }
 
