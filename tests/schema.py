@@ -65,7 +65,13 @@ def main():
             done = subprocess.run([program, *words, str(path)], capture_output=True, timeout=120)
             if done.returncode not in statuses:
                 continue
-            for number, document in enumerate(documents(schema, done.stdout), 1):
+            try:
+                found = documents(schema, done.stdout)
+            except ValueError as why:
+                print(f"schema: {' '.join(words)} {path.name}: this is no JSON: {why}")
+                failed = 1
+                continue
+            for number, document in enumerate(found, 1):
                 taken[schema] += 1
                 for why in told(validators[schema], document):
                     print(f"schema: {' '.join(words)} {path.name}: document {number}: {why}")
