@@ -45,8 +45,19 @@ ends 2 'mcslab: line 2000001: fault 9: too many lines' names $script <"$work/tra
 ends 2 'mcslab: line 2000001: fault 9: too many lines' names - <"$work/lines.mcs"
 printf '#@ t1\n' >"$work/given"
 ends 2 "$work/given:1: no question and no name has this form" names "$work/given" </dev/null
+printf '#@ t1000 beyond\n' >"$work/given"
+ends 2 "$work/given:1: no question and no name has this form" names "$work/given" </dev/null
 yes | timeout 20 "$program" compile >/dev/null 2>&1 || [ $? -eq 2 ] || { echo "hostile.sh: compile reads lines without an end"; exit 1; }
 rm "$work/lines.plan" "$work/lines.mcs" "$work/trace" "$work/given"
+
+# As many names as steps: what a name is found by does not grow with them.
+{
+    printf 'cores 1\ncnode 5\ncontext 0\nthread 10 255 c1 59 0 stop -\n'
+    seq 200000 | sed 's/.*/#@ t1 name&/'
+    yes '0 t1 signal 1' | head -n 200000
+} >"$work/names.mcs"
+ends 0 '' why "$work/names.mcs"
+rm "$work/names.mcs"
 
 # Bytes that a terminal obeys, in a word, in a name and in the name of a file: told, and not written.
 odd=$(printf 'a\033[31m\007\342\200\256b')

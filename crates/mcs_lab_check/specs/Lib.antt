@@ -1,5 +1,6 @@
 pub mod Names
 pub mod Naming
+pub mod NamesHad
 pub mod Asking
 pub mod Seen
 pub mod Verdicts

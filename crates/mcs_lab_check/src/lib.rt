@@ -7,6 +7,7 @@ mod fault;
 mod flaw;
 mod judging;
 mod last;
+mod latest;
 mod names;
 mod outcome;
 mod reading;

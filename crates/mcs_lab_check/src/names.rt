@@ -1,15 +1,18 @@
 //! The names that a script gives to objects.
-ghost use Rattle.std.specs.Prelude.{◌≡◌, ◌++◌, ◌==◌, [], true, length, map, option_copied, bytes_eq, OnOk, OnErr};
+ghost use Rattle.std.specs.Prelude.{◌≡◌, ◌++◌, ◌∷◌, ◌==◌, [], true, length, map, option_copied, bytes_eq, OnOk, OnErr};
 ghost use Rattle.std.specs.List.{list_all};
 ghost use Rattle.mcs_text.specs.Reading.{words_of};
+ghost use Rattle.mcs_types.specs.declared.id.ObjId.{ObjId};
+ghost use Rattle.mcs_lab_check.specs.NamesHad.{name_in};
 ghost use Rattle.mcs_lab_check.specs.Naming.{answered, gives, given_at, is_formed, is_name, is_of_name, is_this, line_names, name_of, name_text, naming_of, what_named, with_found};
 
 use crate::fault::LabFault;
+use crate::latest::Latest;
 use crate::words::{object_of, queue_of};
 use mcs_plan_source::is_like_id;
 use mcs_text::{Words, letter};
 use mcs_types::{ObjId, Queue};
-use std::alloc::Global;
+use std::alloc::{AllocError, Global};
 use std::io::{self, Write};
 use std::marker::Model;
 
@@ -42,15 +45,20 @@ pub enum Named {
 #[derive(Drop)]
 pub struct Names {
     all: Vec<Given>,
+    latest: Latest,
 }
 
 impl Model for Names {
-    ghost use Rattle.std.specs.Prelude.{List};
-    ghost use Rattle.mcs_lab_check.specs.Naming.{Naming};
+    ghost use Rattle.std.specs.Prelude.{◌≡◌, List};
+    ghost use Rattle.mcs_types.specs.declared.id.ObjId.{ObjId};
+    ghost use Rattle.mcs_lab_check.specs.NamesHad.{name_in};
+    ghost use Rattle.mcs_lab_check.specs.Naming.{Naming, name_of};
 
     ghost Value = { List Naming };
 
     ghost view = { λ n. n.all.items };
+
+    ghost invariant = { λ n. (o : ObjId) → name_in n.latest o ≡ name_of n.all.items o };
 }
 
 /// Returns the text after `#@ ` of a line, which may end with a newline, without that; None where
@@ -104,34 +112,22 @@ fn naming_of(text: &[u8]) -> Option<(ObjId, &[u8])>
     }
 }
 
-/// Returns the name of an object among those that were given: the last one.
-fn last_name(all: &[Given], object: ObjId) -> Option<&[u8]>
-    ensures { option_copied result ≡ name_of all.now object }
-{
-    let mut last = None;
-    for given in all {
-        if given.object.is_same(object) {
-            last = Some(given.name.as_slice());
-        }
-    }
-    last
-}
-
 /// Returns whether an object has this name.
-fn has_name(all: &[Given], object: ObjId, name: &[u8]) -> bool
-    ensures { result ≡ is_this (name_of all.now object) name.now }
+fn has_name(latest: &Latest, object: ObjId, name: &[u8]) -> bool
+    ensures { result ≡ is_this (name_in latest.now object) name.now }
 {
-    match last_name(all, object) {
+    match latest.of(object) {
         Some(last) => last == name,
         None => false,
     }
 }
 
 /// Returns whether an object was given this name, and has it still.
-fn gives(all: &[Given], given: &Given, name: &[u8]) -> bool
+fn gives(all: &[Given], latest: &Latest, given: &Given, name: &[u8]) -> bool
+    requires { (o : ObjId) → name_in latest.now o ≡ name_of all.now o }
     ensures { result ≡ gives all.now name.now given.now }
 {
-    given.name.as_slice() == name && has_name(all, given.object, name)
+    given.name.as_slice() == name && has_name(latest, given.object, name)
 }
 
 /// Returns what a name names, where it names one object more.
@@ -146,12 +142,13 @@ fn with_found(found: Named, object: ObjId) -> Named
 }
 
 /// Returns what a name names among those that were given.
-fn what_named(all: &[Given], name: &[u8]) -> Named
+fn what_named(all: &[Given], latest: &Latest, name: &[u8]) -> Named
+    requires { (o : ObjId) → name_in latest.now o ≡ name_of all.now o }
     ensures { result ≡ what_named all.now name.now }
 {
     let mut found = Named::Nothing;
     for given in all {
-        if gives(all, given, name) {
+        if gives(all, latest, given, name) {
             found = with_found(found, given.object);
         }
     }
@@ -175,7 +172,23 @@ impl Names {
     {
         Names {
             all: Vec::new(alloc),
+            latest: Latest::new(alloc),
         }
+    }
+
+    /// Adds a name that an object is given.
+    fn give(&mut self, alloc: Global, object: ObjId, word: &[u8]) -> Result<(), AllocError>
+        ensures given { OnOk result (self.new
+            ≡ self.old ++ record { object = object; name = word.now } ∷ []) }
+        ensures unchanged { OnErr result (self.new ≡ self.old) }
+    {
+        let name = Vec::from_slice(alloc, word)?;
+        let now = Vec::from_slice(alloc, word)?;
+        self.all.reserve(1)?;
+        self.latest.put(object, now)?;
+        // there is room
+        self.all.push(Given { object, name })?;
+        Ok(())
     }
 
     /// Takes a line of a script, with its newline or without. Where it begins with `#@ ` it gives a
@@ -192,8 +205,7 @@ impl Names {
         let Some((object, word)) = naming_of(text) else {
             return Err(LabFault::Form { line: number });
         };
-        let name = Vec::from_slice(alloc, word)?;
-        self.all.push(Given { object, name })?;
+        self.give(alloc, object, word)?;
         Ok(())
     }
 
@@ -201,14 +213,14 @@ impl Names {
     pub fn of(&self, object: ObjId) -> Option<&[u8]>
         ensures { option_copied result ≡ name_of self.now object }
     {
-        last_name(&self.all, object)
+        self.latest.of(object)
     }
 
     /// Returns what a name names. An object has the name that it was given last.
     pub fn find(&self, name: &[u8]) -> Named
         ensures { result ≡ what_named self.now name.now }
     {
-        what_named(&self.all, name)
+        what_named(&self.all, &self.latest, name)
     }
 
     /// Writes the name of an object between parentheses, where it has one.
@@ -264,7 +276,7 @@ impl Names {
     {
         let given = self.all.get(number)?;
         let name = given.name.as_slice();
-        if has_name(&self.all, given.object, name) {
+        if has_name(&self.latest, given.object, name) {
             Some((given.object, name))
         } else {
             None

@@ -19,10 +19,11 @@ use Rattle.mcs_plan_compile.specs.Fields.{fields_of}
 abbrev pub Line : Type 0
 Line = List ℕ × List (List ℕ)
 
--- the address that a word stands for: a number, or that of what the thread names by it
+-- the address that a word stands for: a number, or that of what the thread names by it, which has
+-- none where it is a CNode
 abbrev pub address_or : LaidPlan → ObjId → List ℕ → Option ℕ → Read ℕ
 address_or laid t word (Some n) = Ok n
-address_or laid t word None = named_read laid t word >>= λ named. Ok named.address
+address_or laid t word None = named_read laid t word >>= λ named. ok_or named.address (not_wanted word)
 
 abbrev pub address_read : LaidPlan → ObjId → List ℕ → Read ℕ
 address_read laid t word = address_or laid t word (number_of word)

@@ -16,6 +16,9 @@ use std::alloc::{AllocError, Global};
 /// The greatest number of 52 bits.
 const LABEL: u64 = (1 << LABEL_BITS) - 1;
 
+/// What the name of a CNode is not.
+const NO_ADDRESS: &str = "an address, since lookup goes on through a CNode: name a slot of it";
+
 /// A thread, which names what it has.
 #[derive(Drop)]
 pub struct Speaker<'a> {
@@ -158,7 +161,7 @@ fn index_place(alloc: Global, index: u64, words: &mut Words<'_>) -> Result<Place
 }
 
 impl<'a> Speaker<'a> {
-    /// An address: a name, or a number.
+    /// Returns an address: that of a name, or a number. Not where the name is that of a CNode.
     fn address(&self, alloc: Global, word: &str) -> Result<u64, Why>
         ensures stands { IfOk result
             (λ a. address_read (laid_said self.now.laid.now) self.now.thread word.now ≡ Ok a) }
@@ -169,7 +172,10 @@ impl<'a> Speaker<'a> {
             return Ok(n);
         }
         let named = self.laid.named(alloc, self.thread, word)?;
-        Ok(named.address)
+        match named.address {
+            Some(address) => Ok(address),
+            None => Err(not(alloc, word, NO_ADDRESS)),
+        }
     }
 
     /// The place that a name stands for.

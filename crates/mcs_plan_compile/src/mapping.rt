@@ -46,6 +46,14 @@ fn widths(script: &Script) -> (usize, usize) {
     (threads, names)
 }
 
+/// The address of a name; a dash where it has none.
+fn address_text(alloc: Global, named: &Named) -> Result<String, AllocError> {
+    match named.address {
+        Some(address) => format!(in alloc; "{address}"),
+        None => String::from_str(alloc, "-"),
+    }
+}
+
 /// Adds a line of the table.
 fn add_named(
     alloc: Global,
@@ -54,11 +62,10 @@ fn add_named(
     thread: &str,
     named: &Named,
 ) -> Result<(), AllocError> {
-    let address = named.address;
-    let digits = format!(in alloc; "{address}")?;
+    let address = address_text(alloc, named)?;
     add_cell(to, thread, threads)?;
     add_cell(to, named.name.as_str(), names)?;
-    add_cell(to, digits.as_str(), 8)?;
+    add_cell(to, address.as_str(), 8)?;
     to.push_str(named.written.as_str())?;
     to.push_str("\n")
 }
@@ -78,8 +85,8 @@ fn add_objects(alloc: Global, to: &mut String, script: &Script) -> Result<(), Al
     Ok(())
 }
 
-/// A line for each name of each thread: the thread, the name, the address, and the capability as
-/// the plan wrote it; then the objects and their names.
+/// Writes a line for each name of each thread: the thread, the name, the address, which is a dash
+/// for a CNode, and the capability as the plan wrote it; then the objects and their names.
 pub fn write_map(alloc: Global, script: &Script) -> Result<String, AllocError> {
     let (threads, names) = widths(script);
     let mut to = String::new(alloc);

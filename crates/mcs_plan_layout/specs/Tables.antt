@@ -3,7 +3,7 @@ use Rattle.std.specs.Prelude.{◌+◌, ◌-◌, ◌*◌, ◌^◌, ◌++◌, ℕ,
 use Rattle.mcs_types.specs.declared.id.Kind.TheVariants as kind
 use Rattle.mcs_types.specs.declared.cap.Cap.{Cap}
 use Rattle.mcs_types.specs.declared.cap.Place.{Place}
-use Rattle.mcs_types.specs.Ids.{place_of}
+use Rattle.mcs_types.specs.Ids.{place_of, same_kind}
 use Rattle.mcs_plan_source.specs.Saying.{Said, SaidSpace}
 use Rattle.mcs_plan_source.specs.Naming.{ByName}
 use Rattle.mcs_plan_layout.specs.declared.layout.Layout.{Layout}
@@ -12,12 +12,12 @@ use Rattle.mcs_plan_layout.specs.declared.tables.Named.{Named}
 use Rattle.mcs_plan_layout.specs.Boot.{each, guarded, layout_at}
 use Rattle.mcs_plan_layout.specs.Layouts.{layouts_of}
 
--- a name of a thread: what its slot holds when the boot has ended, its address, and the place of
--- the slot
+-- a name of a thread: what its slot holds when the boot has ended, its address if it has one, and
+-- the place of the slot
 pub record Row : Type 0 where
   pub name : List ℕ
   pub cap : Option Cap
-  pub address : ℕ
+  pub address : Option ℕ
   pub place : Place
 
 abbrev pub row_of : Named → Row
@@ -46,13 +46,19 @@ held_then layouts space cap = option_map (λ c. guarded layouts space c) cap
 abbrev pub address_in : Layout → ℕ → ℕ
 address_in l index = index * 2 ^ l.within
 
+-- the address by which an entry names what a slot holds: none where that is a capability to a
+-- CNode, since lookup goes on through it
+abbrev pub naming_address : Option Cap → ℕ → Option ℕ
+naming_address None address = Some address
+naming_address (Some cap) address = if same_kind cap.obj.kind kind.CNode then None else Some address
+
 -- the row of a slot of a space
 abbrev pub own_row : List Layout → ℕ → ℕ → List ℕ → Option Cap → Row
 own_row layouts space index name cap =
     record {
       name = name;
       cap = held_then layouts space cap;
-      address = address_in (layout_at layouts space) index;
+      address = naming_address cap (address_in (layout_at layouts space) index);
       place = record { index = index; depth = 64 - (layout_at layouts space).within };
     }
 
@@ -66,7 +72,7 @@ inner_row layouts outer space address name cap =
     record {
       name = path_of outer name;
       cap = held_then layouts space cap;
-      address = address;
+      address = naming_address cap address;
       place = record { index = address; depth = 64 };
     }
 

@@ -2,7 +2,7 @@
 ghost use Rattle.std.specs.Prelude.{◌≡◌, ◌<◌, ◌+◌, ◌++◌, ◌∷◌, ◌^◌, [], IfOk, OnOk, map, slice_get, string_bytes};
 ghost use Rattle.mcs_plan_source.specs.Saying.{said, said_space};
 ghost use Rattle.mcs_plan_layout.specs.SpaceLayouts.{IsLaidOut};
-ghost use Rattle.mcs_plan_layout.specs.Tables.{row_of, rows_of, table_rows, row_at, held_then, address_in, path_of, inner_row, inner_slot, inner_rows};
+ghost use Rattle.mcs_plan_layout.specs.Tables.{row_of, rows_of, table_rows, row_at, held_then, address_in, naming_address, path_of, inner_row, inner_slot, inner_rows};
 ghost use Rattle.mcs_plan_layout.specs.Tables.{rows_behind, own_rows, table_of, tables_by};
 
 use crate::Layout;
@@ -19,8 +19,9 @@ pub struct Named {
     pub written: String,
     /// The capability; None for an empty slot.
     pub cap: Option<Cap>,
-    /// The address of the slot, unless it holds a capability to a CNode.
-    pub address: u64,
+    /// The address by which an entry names what the slot holds; None where that is a capability to
+    /// a CNode, since lookup goes on through it.
+    pub address: Option<u64>,
     /// The place of the slot.
     pub place: Place,
 }
@@ -52,6 +53,17 @@ fn address_in(layout: &Layout, index: u32) -> u64
     ensures few { result < 2 ^ 63 }
 {
     layout.address(index)
+}
+
+/// Returns the address by which an entry names what a slot holds: None where that is a capability
+/// to a CNode, since lookup goes on through it.
+fn naming_address(cap: Option<Cap>, address: u64) -> Option<u64>
+    ensures { result ≡ naming_address cap address }
+{
+    match cap {
+        Some(cap) if cap.obj.kind.is_same(Kind::CNode) => None,
+        Some(_) | None => Some(address),
+    }
 }
 
 /// Adds a row.
@@ -91,7 +103,7 @@ impl Laid {
             name: path_of(alloc, held.outer, name)?,
             written: slot.written.clone()?,
             cap: self.held(held.space, slot),
-            address,
+            address: naming_address(slot.cap, address),
             place: Place {
                 index: address,
                 depth: 64,
@@ -201,7 +213,7 @@ impl Laid {
             name: String::from_str(alloc, name)?,
             written: slot.written.clone()?,
             cap: self.held(place, slot),
-            address,
+            address: naming_address(slot.cap, address),
             place: layout.place(number),
         };
         push(to, own)?;

@@ -1,6 +1,7 @@
 //! Whether names lead to what they stand for.
-ghost use Rattle.std.specs.Prelude.{◌≡◌, ◌↔◌, ◌<◌, IsTrue, true, IfNone, All, length};
+ghost use Rattle.std.specs.Prelude.{◌≡◌, ◌↔◌, ◌<◌, IsTrue, true, IfNone, All, Ok, Some, length};
 ghost use Rattle.mcs_book.specs.History.{log_of};
+ghost use Rattle.mcs_state.specs.Questions.{named_for};
 ghost use Rattle.mcs_plan_validate.specs.Leading.{IsNamed, Leads, AllLead, thread_at};
 
 use mcs_kernel::Kernel;
@@ -26,19 +27,31 @@ fn is_held(held: Option<Cap>, wanted: &Option<Cap>) -> bool
     }
 }
 
-/// Whether an address names what a slot holds, unless that is nothing, or a capability to a CNode.
-fn is_named<L: Lines>(kernel: &Kernel<L>, thread: ObjId, address: u64, cap: &Option<Cap>) -> bool
-    ensures { result ≡ true → IsNamed (log_of kernel.now) thread address cap.now }
+/// Returns whether an address names a capability. Where it is true, it does; false claims nothing.
+fn names<L: Lines>(kernel: &Kernel<L>, thread: ObjId, address: u64, cap: &Cap) -> bool
+    ensures { result ≡ true → named_for (log_of kernel.now) thread address ≡ Some (Ok cap.now) }
 {
-    let Some(cap) = cap else {
-        return true;
-    };
-    if cap.obj.kind.is_same(Kind::CNode) {
-        return true;
-    }
     match kernel.named(thread, address) {
         Some(Ok(found)) => is_same_cap(&found, cap),
         _ => false,
+    }
+}
+
+/// Returns whether an address names what a slot holds, unless that is nothing, and what has none is
+/// a capability to a CNode. Where it is true, both are so; false claims nothing.
+fn is_named<L: Lines>(
+    kernel: &Kernel<L>,
+    thread: ObjId,
+    address: Option<u64>,
+    cap: &Option<Cap>,
+) -> bool
+    ensures { result ≡ true → IsNamed (log_of kernel.now) thread address cap.now }
+{
+    match (address, cap) {
+        (Some(_), None) => true,
+        (Some(address), Some(cap)) => names(kernel, thread, address, cap),
+        (None, None) => false,
+        (None, Some(cap)) => cap.obj.kind.is_same(Kind::CNode),
     }
 }
 

@@ -12,7 +12,7 @@ use mcs_explore_report::{Explored, Output, Progress, Wanted, explore_and_tell};
 use mcs_lab_check::Outcome;
 use mcs_sim::Source;
 use std::alloc::{AllocError, Global};
-use std::io::{IsTerminal, Read, Write};
+use std::io::{self, IsTerminal, Read, Write};
 use std::time::Instant;
 
 /// How many states are found at most, where nothing else is said.
@@ -269,6 +269,25 @@ impl Progress for Meter<'_> {
     }
 }
 
+/// Writes each piece at once: what a search found is written before its scripts are kept, whatever
+/// ends the program then. What can't be written stays with the writer, whose last flush tells it.
+#[derive(Drop)]
+struct Prompt<W> {
+    to: W,
+}
+
+impl<W: Write> Write for Prompt<W> {
+    fn write(&mut self, piece: &[u8]) -> io::Result<usize> {
+        let count = self.to.write(piece)?;
+        let _ = self.to.flush();
+        Ok(count)
+    }
+
+    fn flush(&mut self) -> io::Result<()> {
+        self.to.flush()
+    }
+}
+
 /// Goes through all orders of a script, and returns the exit status.
 pub fn explore<R: Read, W: Write + Drop>(
     rt: &HostRuntime,
@@ -288,7 +307,7 @@ pub fn explore<R: Read, W: Write + Drop>(
     let explored = explore_and_tell(
         rt.alloc(),
         from,
-        to,
+        Prompt { to },
         sought.wanted,
         sought.output,
         &mut folder,

@@ -165,12 +165,11 @@ impl Planned<'_> {
         report: &[u8],
         form: Form,
         to: &mut W,
-    ) -> Result<(), LabFault> {
+    ) -> io::Result<()> {
         match self.retold(alloc, report, form) {
-            Ok(text) => to.write_all(&text)?,
-            Err(AllocError) => to.write_all(report)?,
+            Ok(text) => to.write_all(&text),
+            Err(AllocError) => to.write_all(report),
         }
-        Ok(())
     }
 
     /// Checks the script.
@@ -228,10 +227,14 @@ impl Planned<'_> {
         if sought.output.is_json {
             return explore(rt, &mut self.source(), to, sought);
         }
-        let mut report = Vec::new(rt.alloc());
-        let done = explore(rt, &mut self.source(), &mut report, sought);
-        self.put(rt.alloc(), &report, Form::Orders, to)?;
-        done
+        let alloc = rt.alloc();
+        let planned = self;
+        explore(
+            rt,
+            &mut self.source(),
+            Orders { planned, alloc, to },
+            sought,
+        )
     }
 
     /// Draws the script.
@@ -278,6 +281,27 @@ impl Planned<'_> {
         let done = self.do_command(rt, command, &mut to);
         to.flush()?;
         done
+    }
+}
+
+/// Writes a report on the orders of a script as one on the plan, piece by piece: each piece has
+/// whole lines.
+#[derive(Drop)]
+struct Orders<'a, W> {
+    planned: &'a Planned<'a>,
+    alloc: Global,
+    to: W,
+}
+
+impl<W: Write> Write for Orders<'_, W> {
+    fn write(&mut self, piece: &[u8]) -> io::Result<usize> {
+        self.planned
+            .put(self.alloc, piece, Form::Orders, &mut self.to)?;
+        Ok(piece.len())
+    }
+
+    fn flush(&mut self) -> io::Result<()> {
+        self.to.flush()
     }
 }
 

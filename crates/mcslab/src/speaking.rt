@@ -48,7 +48,7 @@ impl<'a> Speaker<'a> {
     /// Returns the name that the thread has for an address, if it has one.
     fn of_address(self, address: u64) -> Option<&'a str> {
         for named in self.script.laid.tables.get(self.place)?.iter() {
-            if named.address == address {
+            if named.address == Some(address) {
                 return Some(named.name.as_str());
             }
         }
