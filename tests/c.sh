@@ -4,6 +4,7 @@
 # Needs a C compiler (CC, or gcc, or clang); says what it skips. These are taken where they are set:
 #   LIBMCS  the archive of mcs_c, in the place of what `rt lib` builds (proved, which may take long)
 #   MCSSIM  the simulator, else crates/mcssim/out/mcssim; without it no trace is compared
+#   MCSLAB  the checker, else crates/mcslab/out/mcslab; without it scripts of plans alone are compared
 #   KIT     the kit's folder, else the one that `rt` is in
 #   STEPS   how many steps the script has by which the speed is measured (200000)
 set -u
@@ -33,6 +34,9 @@ if [ ! -f "$LIBMCS" ]; then
 fi
 MCSSIM=${MCSSIM:-$top/crates/mcssim/out/mcssim}
 [ -x "$MCSSIM" ] || skip "comparing with mcssim, which is not at $MCSSIM"
+MCSLAB=${MCSLAB:-$top/crates/mcslab/out/mcslab}
+[ -x "$MCSLAB" ] || skip "comparing with mcslab, which is not at $MCSLAB"
+data=$top/crates/mcs_test_examples/data
 
 room=$(mktemp -d)
 trap 'rm -rf "$room"' EXIT
@@ -45,7 +49,7 @@ make() {
     mkdir -p "$to"
     examples=$top/ports/sel4sim/examples
     layer="$top/ports/sel4sim/sel4sim.c $LIBMCS $HEAP"
-    $CC $flags -o "$to/replay" ports/c/replay.c "$LIBMCS" "$HEAP" &&
+    $CC $flags -o "$to/tool" ports/c/tool.c "$LIBMCS" "$HEAP" &&
         $CC $flags -o "$to/calls" -Wl,--wrap=malloc -Wl,--wrap=realloc ports/c/calls.c "$LIBMCS" "$HEAP" &&
         $CC $flags -o "$to/ten_lines" "$examples/ten_lines.c" $layer &&
         $CC $flags -o "$to/layer" "$examples/layer.c" $layer &&
@@ -61,12 +65,29 @@ make() {
 replayed() {
     "$MCSSIM" replay <"$1" >"$room/want" 2>"$room/want.err"
     want=$?
-    for how in "" steps; do
-        "$room/plain/replay" $how <"$1" >"$room/got" 2>"$room/got.err"
+    for how in replay steps; do
+        "$room/plain/tool" $how <"$1" >"$room/got" 2>"$room/got.err"
         got=$?
         cmp -s "$room/want" "$room/got" && [ $want = $got ] && cmp -s "$room/want.err" "$room/got.err" ||
             fail "$1 $how: the library gives another trace, status or fault ($got, not $want)"
     done
+}
+
+# done_so COMMAND FILE: mcslab and the library give the same text and status; where a line is refused, each
+# says which
+done_so() {
+    "$MCSLAB" "$1" "$2" >"$room/want" 2>"$room/want.err"
+    want=$?
+    "$room/plain/tool" "$1" <"$2" >"$room/got" 2>"$room/got.err"
+    got=$?
+    cmp -s "$room/want" "$room/got" && [ $want = $got ] || fail "$1 $2: the library gives another text or status ($got, not $want)"
+    [ "$want" != 2 ] || [ "$1" = check ] || [ "$(line_in "$room/want.err")" = "$(line_in "$room/got.err")" ] ||
+        fail "$1 $2: the library refuses another line"
+}
+
+# line_in FILE: the number of the line that a fault names
+line_in() {
+    sed -n '1s/^\(mcslab: \)\{0,1\}line \([0-9]*\): .*/\2/p; 1s/^[^ ]*:\([0-9]*\): .*/\1/p' "$1"
 }
 
 # back FILE: a trace that mcssim gives back byte for byte
@@ -119,11 +140,32 @@ fi
 
 if [ -x "$MCSSIM" ]; then
     count=0
-    for file in $(find examples crates/mcs_test_examples/data -name '*.mcs' | sort); do
+    for file in $(find "$data" -name '*.mcs' | sort); do
         replayed "$file"
         count=$((count + 1))
     done
     echo "$count scripts: compared with mcssim, whole and step by step"
+fi
+
+count=0
+for plan in "$data"/gallery/*.plan "$data"/plans/*.plan "$data"/microkit/*.plan; do
+    [ -f "${plan%.plan}.mcs" ] || continue
+    "$room/plain/tool" compile <"$plan" | cmp -s - "${plan%.plan}.mcs" || fail "compile $plan: another script than the one beside it"
+    count=$((count + 1))
+done
+echo "$count plans: compared with their scripts"
+if [ -x "$MCSLAB" ]; then
+    count=0
+    for file in $(find "$data" tests/lab tests/faults -name '*.mcs' | sort); do
+        done_so check "$file"
+        done_so explore "$file"
+        count=$((count + 1))
+    done
+    for plan in $(find "$data" tests/faults -name '*.plan' | sort); do
+        done_so compile "$plan"
+        count=$((count + 1))
+    done
+    echo "$count scripts and plans: compared with mcslab"
 fi
 
 # Speed: the same script by both, in one run.
@@ -142,7 +184,7 @@ print(f"{t.children_user + t.children_system:.2f}")' "$@"
 report() {
     [ -n "$2" ] && awk -v n="$steps" -v s="$2" -v what="$1" 'BEGIN { printf "%s: %d steps in %s s of a processor, %.0f steps a second\n", what, n, s, n / (s > 0 ? s : 0.01) }'
 }
-report "the library" "$(seconds "$room/long.mcs" "$room/plain/replay")"
+report "the library" "$(seconds "$room/long.mcs" "$room/plain/tool" replay)"
 [ -x "$MCSSIM" ] && report "mcssim replay" "$(seconds "$room/long.mcs" "$MCSSIM" replay)"
 
 echo "$failed failed, $skipped skipped"
