@@ -1,5 +1,5 @@
 #!/bin/sh
-# The library for C, and seL4's calls over it: builds crates/mcs_c, compiles ports/ and runs its tests.
+# The library for C, seL4's calls over it, and its calls from Rust: builds crates/mcs_c, compiles ports/ and runs its tests.
 #   sh tests/c.sh
 # Needs a C compiler (CC, or gcc, or clang); says what it skips. These are taken where they are set:
 #   LIBMCS  the archive of mcs_c, in the place of what `rt lib` builds (proved, which may take long)
@@ -166,6 +166,16 @@ if [ -x "$MCSLAB" ]; then
         count=$((count + 1))
     done
     echo "$count scripts and plans: compared with mcslab"
+fi
+
+if command -v cargo >/dev/null; then
+    archive=$(readlink -f "$LIBMCS")
+    (cd ports/rust && CARGO_TARGET_DIR=$room/rust LIBMCS=$archive LIBHEAP=$HEAP cargo test --offline --quiet) >"$room/rust.out" 2>&1 || {
+        cat "$room/rust.out"
+        fail "the calls from Rust"
+    }
+else
+    skip "the calls from Rust: there is no cargo"
 fi
 
 # Speed: the same script by both, in one run.
