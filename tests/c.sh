@@ -52,6 +52,7 @@ make() {
     $CC $flags -o "$to/tool" ports/c/tool.c "$LIBMCS" "$HEAP" &&
         $CC $flags -o "$to/calls" -Wl,--wrap=malloc -Wl,--wrap=realloc ports/c/calls.c "$LIBMCS" "$HEAP" &&
         $CC $flags -o "$to/ten_lines" "$examples/ten_lines.c" $layer &&
+        $CC $flags -o "$to/overrun" "$examples/overrun.c" $layer &&
         $CC $flags -o "$to/layer" "$examples/layer.c" $layer &&
         $CC $flags -o "$to/files" "$examples/files.c" $layer &&
         $CC $flags -DMENDED -o "$to/mended" "$examples/files.c" $layer || return 1
@@ -96,37 +97,60 @@ back() {
     "$MCSSIM" replay <"$1" | cmp -s - "$1" || fail "$1: mcssim does not give the trace back"
 }
 
-# run NAME: the tests of one folder of programs
+# run NAME TOOL..: the tests of one folder of programs, each under a tool, if one is named
 run() {
+    by=$1
     to=$room/$1
-    "$to/calls" || fail "$1: the calls of mcs.h"
-    "$to/layer" || fail "$1: the layer"
-    "$to/ten_lines" || fail "$1: the test in ten lines"
-    "$to/microkit" || fail "$1: Microkit's handlers"
-    "$to/mended" || fail "$1: the mended server"
-    "$to/files" "$room/stuck.mcs" && fail "$1: no seed finds the deadlock"
+    shift
+    "$@" "$to/calls" || fail "$by: the calls of mcs.h"
+    "$@" "$to/layer" || fail "$by: the layer"
+    "$@" "$to/ten_lines" || fail "$by: the test in ten lines"
+    "$@" "$to/microkit" || fail "$by: Microkit's handlers"
+    # each seed is a process of its own: under a tool, a few
+    "$@" "$to/mended" ${1:+explore 6} || fail "$by: the mended server"
+    "$@" "$to/files" "$room/stuck.mcs" && fail "$by: no seed finds the deadlock"
     back "$room/stuck.mcs"
-    "$to/files" explore 100 "$room/order.mcs" && fail "$1: no order finds the deadlock"
+    [ $# = 0 ] || return 0
+    "$to/files" explore 100 "$room/order.mcs" && fail "$by: no order finds the deadlock"
     back "$room/order.mcs"
+}
+
+# finds WORDS: what a tool wrote names a write behind a block, as the program that has one was run by it
+finds() {
+    grep -q "$1" "$room/overrun.err" || fail "a write behind a block is not found: $1"
 }
 
 make plain -O2 || exit 1
 run plain
 if echo 'int main(void) { return 0; }' | $CC -fsanitize=address,undefined -x c -o "$room/probe" - 2>"$room/probe.err" && "$room/probe"; then
     if make checked "-O1 -g -fsanitize=address,undefined -fno-sanitize-recover=all"; then
-        # each program is told that the sanitizer knows little of coroutines
-        ASAN_OPTIONS=detect_stack_use_after_return=0 run checked 2>"$room/checked.err"
+        # each program is told that the sanitizer knows little of swapcontext, though it is told of each stack
+        run checked 2>"$room/checked.err"
         grep -v 'makecontext/swapcontext' "$room/checked.err" >&2
+        grep -q 'ERROR: \|runtime error: ' "$room/checked.err" && fail "a sanitizer finds an error"
+        "$room/checked/overrun" 2>"$room/overrun.err" && fail "a write behind a block ends well"
+        finds 'heap-buffer-overflow\|insufficient space'
     else
         fail "with sanitizers"
     fi
 else
     skip "the sanitizers, which $CC does not have"
 fi
-if command -v valgrind >/dev/null; then
-    valgrind -q --error-exitcode=9 --leak-check=full "$room/plain/calls" || fail "under valgrind"
-else
+if ! command -v valgrind >/dev/null; then
     skip "valgrind, which is not there"
+elif ! echo '#include <valgrind/valgrind.h>' | $CC -E - >/dev/null 2>&1; then
+    skip "valgrind, whose header valgrind/valgrind.h is not there"
+elif make watched "-O1 -g -DSEL4SIM_VALGRIND"; then
+    run watched valgrind -q --error-exitcode=9 --leak-check=full "--log-file=$room/memcheck.%p"
+    cat "$room"/memcheck.* >"$room/memcheck"
+    if [ -s "$room/memcheck" ]; then
+        cat "$room/memcheck"
+        fail "valgrind finds an error"
+    fi
+    valgrind -q --error-exitcode=9 "$room/watched/overrun" 2>"$room/overrun.err" && fail "a write behind a block ends well"
+    finds 'Invalid write'
+else
+    fail "for valgrind"
 fi
 
 echo '#include <sel4/sel4.h>
