@@ -1,9 +1,10 @@
 #!/bin/sh
-# The library for C, and seL4's calls over it: builds crates/mcs_c, compiles ports/ and runs its tests.
+# The library for C, seL4's calls over it, and its calls from Rust: builds crates/mcs_c, compiles ports/ and runs its tests.
 #   sh tests/c.sh
 # Needs a C compiler (CC, or gcc, or clang); says what it skips. These are taken where they are set:
 #   LIBMCS  the archive of mcs_c, in the place of what `rt lib` builds (proved, which may take long)
 #   MCSSIM  the simulator, else crates/mcssim/out/mcssim; without it no trace is compared
+#   MCSLAB  the checker, else crates/mcslab/out/mcslab; without it scripts of plans alone are compared
 #   KIT     the kit's folder, else the one that `rt` is in
 #   STEPS   how many steps the script has by which the speed is measured (200000)
 set -u
@@ -33,6 +34,9 @@ if [ ! -f "$LIBMCS" ]; then
 fi
 MCSSIM=${MCSSIM:-$top/crates/mcssim/out/mcssim}
 [ -x "$MCSSIM" ] || skip "comparing with mcssim, which is not at $MCSSIM"
+MCSLAB=${MCSLAB:-$top/crates/mcslab/out/mcslab}
+[ -x "$MCSLAB" ] || skip "comparing with mcslab, which is not at $MCSLAB"
+data=$top/crates/mcs_test_examples/data
 
 room=$(mktemp -d)
 trap 'rm -rf "$room"' EXIT
@@ -45,9 +49,10 @@ make() {
     mkdir -p "$to"
     examples=$top/ports/sel4sim/examples
     layer="$top/ports/sel4sim/sel4sim.c $LIBMCS $HEAP"
-    $CC $flags -o "$to/replay" ports/c/replay.c "$LIBMCS" "$HEAP" &&
+    $CC $flags -o "$to/tool" ports/c/tool.c "$LIBMCS" "$HEAP" &&
         $CC $flags -o "$to/calls" -Wl,--wrap=malloc -Wl,--wrap=realloc ports/c/calls.c "$LIBMCS" "$HEAP" &&
         $CC $flags -o "$to/ten_lines" "$examples/ten_lines.c" $layer &&
+        $CC $flags -o "$to/overrun" "$examples/overrun.c" $layer &&
         $CC $flags -o "$to/layer" "$examples/layer.c" $layer &&
         $CC $flags -o "$to/files" "$examples/files.c" $layer &&
         $CC $flags -DMENDED -o "$to/mended" "$examples/files.c" $layer || return 1
@@ -61,12 +66,29 @@ make() {
 replayed() {
     "$MCSSIM" replay <"$1" >"$room/want" 2>"$room/want.err"
     want=$?
-    for how in "" steps; do
-        "$room/plain/replay" $how <"$1" >"$room/got" 2>"$room/got.err"
+    for how in replay steps; do
+        "$room/plain/tool" $how <"$1" >"$room/got" 2>"$room/got.err"
         got=$?
         cmp -s "$room/want" "$room/got" && [ $want = $got ] && cmp -s "$room/want.err" "$room/got.err" ||
             fail "$1 $how: the library gives another trace, status or fault ($got, not $want)"
     done
+}
+
+# done_so COMMAND FILE: mcslab and the library give the same text and status; where a line is refused, each
+# says which
+done_so() {
+    "$MCSLAB" "$1" "$2" >"$room/want" 2>"$room/want.err"
+    want=$?
+    "$room/plain/tool" "$1" <"$2" >"$room/got" 2>"$room/got.err"
+    got=$?
+    cmp -s "$room/want" "$room/got" && [ $want = $got ] || fail "$1 $2: the library gives another text or status ($got, not $want)"
+    [ "$want" != 2 ] || [ "$1" = check ] || [ "$(line_in "$room/want.err")" = "$(line_in "$room/got.err")" ] ||
+        fail "$1 $2: the library refuses another line"
+}
+
+# line_in FILE: the number of the line that a fault names
+line_in() {
+    sed -n '1s/^\(mcslab: \)\{0,1\}line \([0-9]*\): .*/\2/p; 1s/^[^ ]*:\([0-9]*\): .*/\1/p' "$1"
 }
 
 # back FILE: a trace that mcssim gives back byte for byte
@@ -75,37 +97,60 @@ back() {
     "$MCSSIM" replay <"$1" | cmp -s - "$1" || fail "$1: mcssim does not give the trace back"
 }
 
-# run NAME: the tests of one folder of programs
+# run NAME TOOL..: the tests of one folder of programs, each under a tool, if one is named
 run() {
+    by=$1
     to=$room/$1
-    "$to/calls" || fail "$1: the calls of mcs.h"
-    "$to/layer" || fail "$1: the layer"
-    "$to/ten_lines" || fail "$1: the test in ten lines"
-    "$to/microkit" || fail "$1: Microkit's handlers"
-    "$to/mended" || fail "$1: the mended server"
-    "$to/files" "$room/stuck.mcs" && fail "$1: no seed finds the deadlock"
+    shift
+    "$@" "$to/calls" || fail "$by: the calls of mcs.h"
+    "$@" "$to/layer" || fail "$by: the layer"
+    "$@" "$to/ten_lines" || fail "$by: the test in ten lines"
+    "$@" "$to/microkit" || fail "$by: Microkit's handlers"
+    # each seed is a process of its own: under a tool, a few
+    "$@" "$to/mended" ${1:+explore 6} || fail "$by: the mended server"
+    "$@" "$to/files" "$room/stuck.mcs" && fail "$by: no seed finds the deadlock"
     back "$room/stuck.mcs"
-    "$to/files" explore 100 "$room/order.mcs" && fail "$1: no order finds the deadlock"
+    [ $# = 0 ] || return 0
+    "$to/files" explore 100 "$room/order.mcs" && fail "$by: no order finds the deadlock"
     back "$room/order.mcs"
+}
+
+# finds WORDS: what a tool wrote names a write behind a block, as the program that has one was run by it
+finds() {
+    grep -q "$1" "$room/overrun.err" || fail "a write behind a block is not found: $1"
 }
 
 make plain -O2 || exit 1
 run plain
 if echo 'int main(void) { return 0; }' | $CC -fsanitize=address,undefined -x c -o "$room/probe" - 2>"$room/probe.err" && "$room/probe"; then
     if make checked "-O1 -g -fsanitize=address,undefined -fno-sanitize-recover=all"; then
-        # each program is told that the sanitizer knows little of coroutines
-        ASAN_OPTIONS=detect_stack_use_after_return=0 run checked 2>"$room/checked.err"
+        # each program is told that the sanitizer knows little of swapcontext, though it is told of each stack
+        run checked 2>"$room/checked.err"
         grep -v 'makecontext/swapcontext' "$room/checked.err" >&2
+        grep -q 'ERROR: \|runtime error: ' "$room/checked.err" && fail "a sanitizer finds an error"
+        "$room/checked/overrun" 2>"$room/overrun.err" && fail "a write behind a block ends well"
+        finds 'heap-buffer-overflow\|insufficient space'
     else
         fail "with sanitizers"
     fi
 else
     skip "the sanitizers, which $CC does not have"
 fi
-if command -v valgrind >/dev/null; then
-    valgrind -q --error-exitcode=9 --leak-check=full "$room/plain/calls" || fail "under valgrind"
-else
+if ! command -v valgrind >/dev/null; then
     skip "valgrind, which is not there"
+elif ! echo '#include <valgrind/valgrind.h>' | $CC -E - >/dev/null 2>&1; then
+    skip "valgrind, whose header valgrind/valgrind.h is not there"
+elif make watched "-O1 -g -DSEL4SIM_VALGRIND"; then
+    run watched valgrind -q --error-exitcode=9 --leak-check=full "--log-file=$room/memcheck.%p"
+    cat "$room"/memcheck.* >"$room/memcheck"
+    if [ -s "$room/memcheck" ]; then
+        cat "$room/memcheck"
+        fail "valgrind finds an error"
+    fi
+    valgrind -q --error-exitcode=9 "$room/watched/overrun" 2>"$room/overrun.err" && fail "a write behind a block ends well"
+    finds 'Invalid write'
+else
+    fail "for valgrind"
 fi
 
 echo '#include <sel4/sel4.h>
@@ -119,11 +164,42 @@ fi
 
 if [ -x "$MCSSIM" ]; then
     count=0
-    for file in $(find examples crates/mcs_test_examples/data -name '*.mcs' | sort); do
+    for file in $(find "$data" -name '*.mcs' | sort); do
         replayed "$file"
         count=$((count + 1))
     done
     echo "$count scripts: compared with mcssim, whole and step by step"
+fi
+
+count=0
+for plan in "$data"/gallery/*.plan "$data"/plans/*.plan "$data"/microkit/*.plan; do
+    [ -f "${plan%.plan}.mcs" ] || continue
+    "$room/plain/tool" compile <"$plan" | cmp -s - "${plan%.plan}.mcs" || fail "compile $plan: another script than the one beside it"
+    count=$((count + 1))
+done
+echo "$count plans: compared with their scripts"
+if [ -x "$MCSLAB" ]; then
+    count=0
+    for file in $(find "$data" tests/lab tests/faults -name '*.mcs' | sort); do
+        done_so check "$file"
+        done_so explore "$file"
+        count=$((count + 1))
+    done
+    for plan in $(find "$data" tests/faults -name '*.plan' | sort); do
+        done_so compile "$plan"
+        count=$((count + 1))
+    done
+    echo "$count scripts and plans: compared with mcslab"
+fi
+
+if command -v cargo >/dev/null; then
+    archive=$(readlink -f "$LIBMCS")
+    (cd ports/rust && CARGO_TARGET_DIR=$room/rust LIBMCS=$archive LIBHEAP=$HEAP cargo test --offline --quiet) >"$room/rust.out" 2>&1 || {
+        cat "$room/rust.out"
+        fail "the calls from Rust"
+    }
+else
+    skip "the calls from Rust: there is no cargo"
 fi
 
 # Speed: the same script by both, in one run.
@@ -142,7 +218,7 @@ print(f"{t.children_user + t.children_system:.2f}")' "$@"
 report() {
     [ -n "$2" ] && awk -v n="$steps" -v s="$2" -v what="$1" 'BEGIN { printf "%s: %d steps in %s s of a processor, %.0f steps a second\n", what, n, s, n / (s > 0 ? s : 0.01) }'
 }
-report "the library" "$(seconds "$room/long.mcs" "$room/plain/replay")"
+report "the library" "$(seconds "$room/long.mcs" "$room/plain/tool" replay)"
 [ -x "$MCSSIM" ] && report "mcssim replay" "$(seconds "$room/long.mcs" "$MCSSIM" replay)"
 
 echo "$failed failed, $skipped skipped"

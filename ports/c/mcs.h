@@ -13,13 +13,20 @@
  * Each call returns a number of this table:
  *
  *   0 MCS_OK         done, and all that was wanted holds
- *   1 MCS_UNMET      done; something that is wanted does not hold (mcs_check)
- *   2 MCS_REFUSED    a line is refused: end->line says which, end->fault why (docs/FORMS.md, K)
+ *   1 MCS_UNMET      done; something that is wanted does not hold (mcs_check, mcs_explore)
+ *   2 MCS_REFUSED    a line is refused: end->line says which, end->fault why
+ *   3 MCS_STOPPED    the budget ended the search, and nothing failed so far (mcs_explore)
  *   5 MCS_BOOK_FULL  the book is full at a step
  *   6 MCS_NO_MEMORY  memory is refused: nothing is written, neither at `out` nor at `end`
  *   7 MCS_WRONG      never; it would be a fault of the library
  *
- * After 2 and 5 the text is that of the lines before. end->line and end->fault are 0 but after 2.
+ * end->line and end->fault are 0 but after 2. The fault is one of these numbers:
+ *
+ *   1 to 9  of a line of a script, as docs/FORMS.md has them (K)
+ *   10      a line has the form of no question (#?) and of no name (#@)
+ *   11      a question to all orders (#!) is refused
+ *   12      a line of a program is refused
+ *   13      a line of a plan is refused
  */
 #ifndef MCS_H
 #define MCS_H
@@ -35,6 +42,7 @@ enum {
     MCS_OK = 0,
     MCS_UNMET = 1,
     MCS_REFUSED = 2,
+    MCS_STOPPED = 3,
     MCS_BOOK_FULL = 5,
     MCS_NO_MEMORY = 6,
     MCS_WRONG = 7
@@ -43,7 +51,7 @@ enum {
 typedef struct {
     size_t length;  /* of the whole text */
     uint64_t line;  /* that is refused, from 1 on; else 0 */
-    uint64_t fault; /* why it is refused, 1 to 9; else 0 */
+    uint64_t fault; /* why it is refused, 1 to 13; else 0 */
 } mcs_end;
 
 /* Replays a script, as `mcssim replay` does. The text is its trace: the boot, and each step with
@@ -59,6 +67,24 @@ uint32_t mcs_replay(const uint8_t *script, size_t script_length,
 uint32_t mcs_step(const uint8_t *script, size_t script_length,
                   const uint8_t *line, size_t line_length,
                   uint8_t *out, size_t room, mcs_end *end);
+
+/* Checks what a script says of its steps, as `mcslab check` does: 0 where all holds, 1 where
+ * something does not. The text is TAP: a verdict for each line that says something, and how many
+ * there are. After 2 and 5 it ends with a line `Bail out!`, which says why. */
+uint32_t mcs_check(const uint8_t *script, size_t script_length,
+                   uint8_t *out, size_t room, mcs_end *end);
+
+/* Makes a script of a plan, as `mcslab compile` does. The text is the script; after 2 it is a line
+ * that says what is wrong with the line of the plan. */
+uint32_t mcs_compile(const uint8_t *plan, size_t plan_length,
+                     uint8_t *out, size_t room, mcs_end *end);
+
+/* Goes through all orders of the users of a script, as `mcslab explore` does, and finds no more
+ * than so many states: 0 where all that is asked holds in all orders, 1 where something fails, 3
+ * where the budget ended the search before. The text is the report; after 2 and 5 it is a line that
+ * says why there is none. */
+uint32_t mcs_explore(const uint8_t *script, size_t script_length, uint64_t states,
+                     uint8_t *out, size_t room, mcs_end *end);
 
 #ifdef __cplusplus
 }

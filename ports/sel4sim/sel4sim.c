@@ -13,6 +13,20 @@
 #include <ucontext.h>
 #include <unistd.h>
 
+#if defined __has_feature
+#if __has_feature(address_sanitizer)
+#define HAS_ASAN
+#endif
+#elif defined __SANITIZE_ADDRESS__
+#define HAS_ASAN
+#endif
+#ifdef HAS_ASAN
+#include <sanitizer/common_interface_defs.h>
+#endif
+#ifdef SEL4SIM_VALGRIND
+#include <valgrind/valgrind.h>
+#endif
+
 enum { THREADS = 257, STACK = 256 * 1024, LINE = 4200, CHOICES = 4096, KEPT = 1 << 20 };
 
 /* ---- the world */
@@ -24,7 +38,8 @@ struct thread {
     void (*code)(void *);
     void *with;
     ucontext_t at;
-    void *stack;
+    void *stack, *shadow;
+    unsigned stack_number;
     bool begun, ended, serves;
     seL4_IPCBuffer buffer;
     /* the call that has not returned, and what it returns */
@@ -324,6 +339,46 @@ static uint32_t enter(struct thread *t) {
     return MCS_OK;
 }
 
+/* ---- stacks, of which AddressSanitizer and valgrind are told */
+
+/* The scheduler's stack, and what AddressSanitizer keeps of it. */
+static const void *scheduler_stack;
+static size_t scheduler_size;
+static void *scheduler_shadow;
+
+static void make_stack(struct thread *t) {
+    t->stack = need(malloc(STACK));
+#ifdef SEL4SIM_VALGRIND
+    t->stack_number = VALGRIND_STACK_REGISTER(t->stack, (char *)t->stack + STACK);
+#endif
+}
+
+static void drop_stack(struct thread *t) {
+#ifdef SEL4SIM_VALGRIND
+    if (t->stack)
+        VALGRIND_STACK_DEREGISTER(t->stack_number);
+#endif
+    free(t->stack);
+}
+
+/* Tells that the next switch leads to a stack; `shadow` is NULL where it is the last from here. */
+static void leave_for(void **shadow, const void *stack, size_t size) {
+#ifdef HAS_ASAN
+    __sanitizer_start_switch_fiber(shadow, stack, size);
+#else
+    (void)shadow, (void)stack, (void)size;
+#endif
+}
+
+/* Tells that a switch led here, and asks from which stack. */
+static void arrive(void *shadow, const void **stack, size_t *size) {
+#ifdef HAS_ASAN
+    __sanitizer_finish_switch_fiber(shadow, stack, size);
+#else
+    (void)shadow, (void)stack, (void)size;
+#endif
+}
+
 /* ---- boot */
 
 static void hear_boot(const char *line) {
@@ -348,7 +403,7 @@ static void hear_boot(const char *line) {
 
 void sel4sim_boot(const char *boot) {
     for (struct thread *t = threads; t < threads + THREADS; t++)
-        free(t->stack);
+        drop_stack(t);
     memset(threads, 0, sizeof threads);
     script.length = trace.length = message_count = 0;
     context_count = thread_count = wrong = 0;
@@ -387,16 +442,24 @@ void sel4sim_picker(size_t (*pick)(const int *, size_t)) {
 
 /* ---- coroutines */
 
+/* Goes from the code of a thread to the scheduler, and comes back when it is resumed. */
+static void give_way(struct thread *t) {
+    leave_for(t->ended ? NULL : &t->shadow, scheduler_stack, scheduler_size);
+    swapcontext(&t->at, &scheduler);
+    arrive(t->shadow, &scheduler_stack, &scheduler_size);
+}
+
 static void run_code(void) {
     struct thread *t = current;
+    arrive(NULL, &scheduler_stack, &scheduler_size);
     t->code(t->with);
     t->ended = true;
-    swapcontext(&t->at, &scheduler);
+    give_way(t);
 }
 
 static void begin(struct thread *t) {
     t->begun = true;
-    t->stack = need(malloc(STACK));
+    make_stack(t);
     getcontext(&t->at);
     t->at.uc_stack.ss_sp = t->stack;
     t->at.uc_stack.ss_size = STACK;
@@ -410,7 +473,9 @@ static void resume(struct thread *t) {
         begin(t);
     current = t;
     t->call = NO_CALL;
+    leave_for(&scheduler_shadow, t->stack, STACK);
     swapcontext(&scheduler, &t->at);
+    arrive(scheduler_shadow, NULL, NULL);
     current = NULL;
 }
 
@@ -557,12 +622,12 @@ static struct thread *running(void) {
 void sel4sim_point(void) {
     struct thread *t = running();
     t->call = NO_CALL;
-    swapcontext(&t->at, &scheduler);
+    give_way(t);
 }
 
 static void leave(struct thread *t, enum call call) {
     t->call = call;
-    swapcontext(&t->at, &scheduler);
+    give_way(t);
 }
 
 /* Makes a call, and comes back when it has returned. */

@@ -1,5 +1,6 @@
 -- What a call leaves in memory of its caller's.
 use Rattle.std.specs.Prelude.{◌≡◌, ℕ, List, ◌++◌, length, take, drop}
+use Rattle.mcs_c.specs.declared.handing.Ending.{Ending}
 use Rattle.mcs_c.specs.declared.handing.McsEnd.{McsEnd}
 
 -- of a text as much was written as there was room for, and what lies behind it stayed
@@ -16,3 +17,17 @@ pub record IsRefused (status : ℕ) (old new : List ℕ) (end end' : McsEnd) : T
   pub answered : status ≡ 6
   pub bytes : new ≡ old
   pub ended : end' ≡ end
+
+-- a call returned the status of an ending, and wrote its line and its fault
+pub record Ends (e : Ending) (status : ℕ) (end : McsEnd) : Type 0 where
+  pub answered : status ≡ e.status
+  pub line : end.line ≡ e.line
+  pub why : end.fault ≡ e.fault
+
+-- an ending that names no line
+abbrev pub with_status : ℕ → Ending
+with_status status = record { status = status; line = 0; fault = 0 }
+
+-- an ending by a line that is refused
+abbrev pub at_line : (line fault : ℕ) → Ending
+at_line line fault = record { status = 2; line = line; fault = fault }

@@ -1,2 +1,5 @@
+pub mod Checks
+pub mod Compiles
+pub mod Explores
 pub mod Handing
 pub mod Replays

@@ -1,5 +1,8 @@
 //! How a call ends, and its text, in memory of the caller's.
-ghost use Rattle.mcs_c.specs.Handing.{HandsOut};
+ghost use Rattle.std.specs.Prelude.{◌≡◌, IfOk, OnErr};
+ghost use Rattle.mcs_c.specs.Handing.{Ends, HandsOut, at_line, with_status};
+
+use mcs_types::OutOfMemory;
 
 /// How a call ended, as C has it (`mcs_end` of `mcs.h`).
 #[repr(C)]
@@ -23,4 +26,75 @@ pub(crate) fn hand_out(text: &[u8], out: &mut [u8]) -> usize
     let n = text.len().min(out.len());
     out[..n].copy_from_slice(&text[..n]);
     text.len()
+}
+
+/// A status, with the line that is refused and why; both are 0 where none is.
+#[derive(Clone, Copy)]
+pub(crate) struct Ending {
+    pub(crate) status: u32,
+    pub(crate) line: u64,
+    pub(crate) fault: u64,
+}
+
+impl Ending {
+    /// The ending with a status that names no line.
+    pub(crate) fn of_status(status: u32) -> Ending
+        ensures { result ≡ with_status status }
+    {
+        Ending {
+            status,
+            line: 0,
+            fault: 0,
+        }
+    }
+
+    /// The ending by a line that is refused.
+    pub(crate) fn of_line(line: u64, fault: u64) -> Ending
+        ensures { result ≡ at_line line fault }
+    {
+        Ending {
+            status: 2,
+            line,
+            fault,
+        }
+    }
+
+    /// Fails where memory was refused.
+    pub(crate) fn granted(self) -> Result<Ending, OutOfMemory>
+        ensures same { IfOk result (λ e. e ≡ self) }
+        ensures granted { IfOk result (λ e. e.status ≡ 6 → ⊥) }
+        ensures refused { OnErr result (self.status ≡ 6) }
+    {
+        if self.status == NO_MEMORY {
+            return Err(OutOfMemory);
+        }
+        Ok(self)
+    }
+}
+
+/// A whole text, and how the call ends that wrote it.
+#[derive(Drop)]
+pub(crate) struct Handed {
+    pub(crate) text: Vec<u8>,
+    pub(crate) ending: Ending,
+}
+
+impl Handed {
+    /// Hands the text out, with how the call ends, and returns the status.
+    pub(crate) fn hand_over(&self, out: &mut [u8], end: &mut McsEnd) -> u32
+        ensures wrote { HandsOut self.now.text.items out.old out.new end.new.length }
+        ensures ends { Ends self.now.ending result end.new }
+    {
+        let Ending {
+            status,
+            line,
+            fault,
+        } = self.ending;
+        *end = McsEnd {
+            length: hand_out(&self.text, out),
+            line,
+            fault,
+        };
+        status
+    }
 }

@@ -3,6 +3,9 @@
 //! ```text
 //! C ── script ──> mcs_replay ── trace ──> C        the whole text
 //! C ── text so far, line ──> mcs_step ── what it adds ──> C
+//! C ── script ──> mcs_check ── verdicts ──> C
+//! C ── plan ──> mcs_compile ── script ──> C
+//! C ── script of users, states ──> mcs_explore ── report ──> C
 //! ```
 //!
 //! Nothing is kept between two calls, and no call calls C back. `ports/c/mcs.h` has the same
@@ -10,6 +13,9 @@
 //! of the caller's, and how it ended into an `McsEnd`; where memory is refused it writes neither.
 #![tactic(auto)]
 
+mod checking;
+mod compiling;
+mod exploring;
 mod handing;
 mod replaying;
 mod telling;

@@ -1,0 +1,76 @@
+//! Scripts that test themselves.
+ghost use Rattle.std.specs.Prelude.{◌≡◌, ◌⊎◌, IfOk};
+ghost use Rattle.mcs_c.specs.Handing.{IsRefused};
+ghost use Rattle.mcs_c.specs.Checks.{Checks, IsChecked, check_ending, lab_ending, why_number};
+
+use crate::handing::{Ending, Handed, McsEnd, NO_MEMORY};
+use mcs_lab_check::{LabFault, check};
+use mcs_sim::Source;
+use mcs_text::LineFault;
+use mcs_types::OutOfMemory;
+use std::alloc::Global;
+
+/// The number of a line that has the form of no question and of no name.
+const NO_FORM: u64 = 10;
+
+/// The number of a fault of a line; that of one without a form where it has none of its own.
+fn why_number(why: Option<LineFault>) -> u64
+    ensures { result ≡ why_number why }
+{
+    match why {
+        Some(why) => u64::from(why.number()),
+        None => NO_FORM,
+    }
+}
+
+/// How a call ends by a fault of a script that is checked or explored. A text in memory refuses a
+/// write only where memory is refused.
+pub(crate) fn lab_ending(fault: LabFault) -> Ending
+    ensures { result ≡ lab_ending fault }
+{
+    match fault {
+        LabFault::Script { line, why } => Ending::of_line(line, u64::from(why.number())),
+        LabFault::Form { line } => Ending::of_line(line, NO_FORM),
+        LabFault::Flawed { line, why, flaw: _ } => Ending::of_line(line, why_number(why)),
+        LabFault::BookFull => Ending::of_status(5),
+        LabFault::Write | LabFault::OutOfMemory => Ending::of_status(NO_MEMORY),
+        LabFault::NoLine { .. } | LabFault::NoBookLine { .. } | LabFault::Read => {
+            Ending::of_status(7)
+        }
+    }
+}
+
+/// How a call ends where a check was answered so.
+fn check_ending(answer: Result<bool, LabFault>) -> Ending
+    ensures { result ≡ check_ending answer }
+{
+    match answer {
+        Ok(true) => Ending::of_status(0),
+        Ok(false) => Ending::of_status(1),
+        Err(fault) => lab_ending(fault),
+    }
+}
+
+/// Checks a script, and returns the verdicts, with how the call ends.
+fn check_text(alloc: Global, script: &[u8]) -> Result<Handed, OutOfMemory>
+    ensures { IfOk result (λ h. IsChecked h.ending) }
+{
+    let mut text = Vec::new(alloc);
+    let answer = check(alloc, &mut Source::new(script), &mut text);
+    let ending = check_ending(answer).granted()?;
+    Ok(Handed { text, ending })
+}
+
+/// Checks what a script says of its steps, and writes as much of the verdicts as there is room for.
+/// Returns 0 where all hold and 1 where some does not; 2 where a line is refused and 5 where the
+/// book is full, and the last verdict says so; 6 where memory is refused, and nothing is written.
+#[unsafe(no_mangle)]
+pub extern "C" fn mcs_check(alloc: Global, script: &[u8], out: &mut [u8], end: &mut McsEnd) -> u32
+    ensures { IsRefused result out.old out.new end.old end.new
+        ⊎ Checks result out.old out.new end.new }
+{
+    match check_text(alloc, script) {
+        Ok(handed) => handed.hand_over(out, end),
+        Err(OutOfMemory) => NO_MEMORY,
+    }
+}

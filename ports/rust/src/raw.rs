@@ -1,0 +1,64 @@
+//! What `ports/c/mcs.h` declares, in its order; `tests/header.rs` compares the two.
+
+pub const MCS_OK: u32 = 0;
+pub const MCS_UNMET: u32 = 1;
+pub const MCS_REFUSED: u32 = 2;
+pub const MCS_STOPPED: u32 = 3;
+pub const MCS_BOOK_FULL: u32 = 5;
+pub const MCS_NO_MEMORY: u32 = 6;
+pub const MCS_WRONG: u32 = 7;
+
+/// How a call ended.
+#[repr(C)]
+#[derive(Clone, Copy, Debug, Default, PartialEq, Eq)]
+#[allow(non_camel_case_types)]
+pub struct mcs_end {
+    pub length: usize,
+    pub line: u64,
+    pub fault: u64,
+}
+
+unsafe extern "C" {
+    pub fn mcs_replay(
+        script: *const u8,
+        script_length: usize,
+        out: *mut u8,
+        room: usize,
+        end: *mut mcs_end,
+    ) -> u32;
+
+    pub fn mcs_step(
+        script: *const u8,
+        script_length: usize,
+        line: *const u8,
+        line_length: usize,
+        out: *mut u8,
+        room: usize,
+        end: *mut mcs_end,
+    ) -> u32;
+
+    pub fn mcs_check(
+        script: *const u8,
+        script_length: usize,
+        out: *mut u8,
+        room: usize,
+        end: *mut mcs_end,
+    ) -> u32;
+
+    pub fn mcs_compile(
+        plan: *const u8,
+        plan_length: usize,
+        out: *mut u8,
+        room: usize,
+        end: *mut mcs_end,
+    ) -> u32;
+
+    pub fn mcs_explore(
+        script: *const u8,
+        script_length: usize,
+        states: u64,
+        out: *mut u8,
+        room: usize,
+        end: *mut mcs_end,
+    ) -> u32;
+}
