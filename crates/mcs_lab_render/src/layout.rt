@@ -5,7 +5,8 @@ use crate::notes::{FEW, has_note, marked, put_label, put_look, put_lost, put_mar
 use crate::numbers::put_words;
 use crate::paper::LOST_TEXT;
 use crate::plans::{
-    CLEAR, COLUMN, Ends, HEAD, Note, NoteKind, Plan, RULE, Row, RowKind, SLOT, STEPS_AT, Stroke,
+    CLEAR, COLUMN, Ends, HEAD, LEAST_WIDTH, Note, NoteKind, Plan, RULE, Row, RowKind, SLOT,
+    STEPS_AT, Stroke,
 };
 use crate::scene::{Scene, place_of};
 use crate::steps::Origin;
@@ -93,7 +94,7 @@ fn put_spelled<N: Names>(
     put_words(alloc, &mut words.page, step.entry);
 }
 
-/// Returns the text of a step: as its file tells it, or else as a script spells it.
+/// Returns the text of a step: as its file has it, or else as a script spells it.
 fn step_text<N: Names>(
     alloc: Global,
     words: &mut Words,
@@ -198,7 +199,7 @@ impl<'a, N: Names> Planner<'a, N> {
         self.line_rows.get(at).copied().unwrap_or(0)
     }
 
-    /// The arrow of the record that has the next one.
+    /// Takes the next arrow: that of the next record that has one.
     fn take_arrow(&mut self) -> Option<Arrow> {
         let drawing = self.scene.drawing;
         let arrow = drawing.strokes.arrows().get(self.next_arrow).copied();
@@ -206,7 +207,7 @@ impl<'a, N: Names> Planner<'a, N> {
         arrow
     }
 
-    /// The text of what an arrow says, with up to so many words of a message.
+    /// Puts what an arrow says, with up to so many words of a message.
     fn say(&mut self, arrow: &Arrow, fact: &Rec, most: usize) {
         put_label(
             self.alloc,
@@ -747,7 +748,7 @@ impl<'a, N: Names> Planner<'a, N> {
             self.plan.lanes.push(at)?;
             at = at.saturating_add(*gap);
         }
-        self.plan.width = at.saturating_add(12);
+        self.plan.width = at.saturating_add(12).max(LEAST_WIDTH);
         Ok(())
     }
 

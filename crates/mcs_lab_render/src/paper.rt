@@ -140,7 +140,7 @@ text.lost{fill:#6b6b6b}
 .label{text-anchor:middle}
 .strong{font-weight:bold}
 .rule{stroke:#ddd}
-.dot{fill:#111}
+.dot{fill:#111;stroke:#fff;stroke-width:2;paint-order:stroke}
 .idle-dot{fill:#fff;stroke:#555}
 .arrow{fill:none;stroke:#111;stroke-width:1.4}
 .answer{stroke-dasharray:7 3}
@@ -174,9 +174,10 @@ text.lost{fill:#9a9a9a}
 .note{fill:#bbb}
 .rule{stroke:#333}
 .dot,.tip{fill:#eee}
+.dot{stroke:#161616}
+.idle-dot{fill:#161616;stroke:#bbb}
 .arrow{stroke:#eee}
 path.lost{stroke:#8a8a8a}
-.k0{fill:#3d9be0;stroke:#3d9be0}
 .bare{fill:#aaa}
 .hatch{fill:#2a2a2a}
 .hatch-line{fill:#666}
