@@ -128,7 +128,7 @@ fn why_away(why: EnterFault) -> &'static str {
 }
 
 impl<'a, N: Names> Planner<'a, N> {
-    /// How the thread of a lane looks behind a line.
+    /// How the thread of a lane looks after a line.
     fn look(&self, number: usize, lane: usize) -> Look {
         match self.plan.threads.get(lane) {
             Some(thread) => self.scene.drawing.look(number, place_of(*thread)),
@@ -440,7 +440,7 @@ impl<'a, N: Names> Planner<'a, N> {
         Ok(())
     }
 
-    /// Lays out the row of a line, with its step and its answer.
+    /// Lays out the row of a line, with its step and its result.
     fn row_of(&mut self, line: &BookLine<'_>, here: Point) -> Result<Row, AllocError> {
         let scene = self.scene;
         let kept = line.kept_step();
@@ -456,12 +456,12 @@ impl<'a, N: Names> Planner<'a, N> {
         };
         row.step = step_text(self.alloc, &mut self.words, scene, origin, step)?;
         spell_answer(&mut self.word, &line.kept_answer());
-        let told = spelled(&self.word);
-        if told.starts_with("= refused") {
+        let result = spelled(&self.word);
+        if result.starts_with("= refused") {
             row.kind = RowKind::Refused;
         }
-        put_words(self.alloc, &mut self.words.page, told);
-        row.told = self.words.take_cut(STEP_COLUMNS)?;
+        put_words(self.alloc, &mut self.words.page, result);
+        row.result = self.words.take_cut(STEP_COLUMNS)?;
         Ok(row)
     }
 
@@ -566,7 +566,7 @@ impl<'a, N: Names> Planner<'a, N> {
             entry: entry_part(away.text.as_str()),
         };
         row.step = step_text(self.alloc, &mut self.words, scene, origin, step)?;
-        row.told.push_str(why_away(away.why))?;
+        row.result.push_str(why_away(away.why))?;
         self.plan.rows.push(row)?;
         Ok(())
     }
@@ -734,7 +734,7 @@ impl<'a, N: Names> Planner<'a, N> {
         let mut most = 0;
         for row in self.plan.rows.iter() {
             most = columns(row.step.as_str())
-                .max(columns(row.told.as_str()))
+                .max(columns(row.result.as_str()))
                 .max(most);
         }
         most.saturating_mul(COLUMN).saturating_add(STEPS_AT + 16)

@@ -131,7 +131,7 @@ text{font:11px 'DejaVu Sans Mono',Menlo,Consolas,monospace;fill:#111;paint-order
 .head-text{font-weight:bold;text-anchor:middle;stroke:none}
 .head-more{text-anchor:middle;stroke:none}
 .number{text-anchor:end;fill:#767676}
-.told{fill:#00664a}
+.result{fill:#00664a}
 .refused{fill:#a63c00;font-weight:bold}
 .away{fill:#767676;font-style:italic}
 .note{fill:#444}
@@ -167,7 +167,7 @@ text{fill:#eee;stroke:#161616}
 .ground{fill:#161616}
 .head{fill:#2a2a2a;stroke:#999}
 .number,.away{fill:#9a9a9a}
-.told{fill:#4fd1a5}
+.result{fill:#4fd1a5}
 .refused{fill:#ff9a5c}
 .mark{fill:#b3c2f2}
 text.lost{fill:#9a9a9a}

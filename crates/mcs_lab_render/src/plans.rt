@@ -65,7 +65,7 @@ pub struct Row {
     /// The thread that enters, if it has a lane.
     pub thread: Option<ObjId>,
     pub step: String,
-    pub told: String,
+    pub result: String,
     pub arrows: usize,
     pub slots: usize,
     pub top: u64,
@@ -80,7 +80,7 @@ impl Row {
             line: None,
             thread: None,
             step: String::new(alloc),
-            told: String::new(alloc),
+            result: String::new(alloc),
             arrows: 0,
             slots: 2,
             top: 0,

@@ -105,14 +105,14 @@ fn put_file_number(to: &mut Page, row: &Row, first: u64) {
     }
 }
 
-/// Puts the numbers of a line, its step and its answer.
-fn put_told(to: &mut Page, row: &Row, class: &str, first: u64) {
+/// Puts the numbers of a line, its step and its result.
+fn put_step(to: &mut Page, row: &Row, class: &str, first: u64) {
     put_row(to, row.number);
     put_number(to, NUMBERS_AT, first, row.number as u64);
     put_file_number(to, row, first);
     put_text(to, "step", STEPS_AT, first, row.step.as_str());
     let second = first.saturating_add(SLOT);
-    put_text(to, class, STEPS_AT, second, row.told.as_str());
+    put_text(to, class, STEPS_AT, second, row.result.as_str());
     to.put(b"</g>\n");
 }
 
@@ -130,10 +130,10 @@ fn put_margin(to: &mut Page, plan: &Plan, row: &Row) {
             put_file_number(to, row, first);
             put_text(to, "away", STEPS_AT, first, row.step.as_str());
             let second = first.saturating_add(SLOT);
-            put_text(to, "away", STEPS_AT, second, row.told.as_str())
+            put_text(to, "away", STEPS_AT, second, row.result.as_str())
         }
-        RowKind::Line => put_told(to, row, "told", first),
-        RowKind::Refused => put_told(to, row, "refused", first),
+        RowKind::Line => put_step(to, row, "result", first),
+        RowKind::Refused => put_step(to, row, "refused", first),
     }
 }
 

@@ -64,7 +64,7 @@ fn format<'a>(alloc: Global) -> Arg<'a> {
     Arg::new(alloc, "format")
         .long("format")
         .value_name("FORMAT")
-        .help("As what [default: svg]")
+        .help("The format [default: svg]")
         .value_parser(FORMATS)
 }
 
