@@ -125,6 +125,8 @@ class Page:
         self.want(value("document.title.length > 0 && document.title === "
                         "document.querySelector('h1').textContent"), "it has no title")
         self.want(value("document.getElementById('step').ariaLive === 'polite'"), "no live step")
+        self.want(value("document.activeElement.matches('main:not(:focus-visible)')"),
+                  "the picture has no focus, or a ring before a key is pressed")
         self.scrolls(main)
         self.steps(main, first, last)
 

@@ -67,8 +67,8 @@ try {
     const told = await value("document.getElementById('step').textContent");
     want(row === line || told === 'Line ' + line + ' reaches no thread that is shown.', 'another step is told at ' + line);
     want(await value("document.querySelectorAll('#states li').length > 0"), 'no states at line ' + line);
-    want(await value("[...document.querySelectorAll('path.arrow[data-line]')].every(arrow => " +
-      "arrow.classList.contains('past') === (Number(arrow.dataset.line) > " + line + '))'), 'arrows at line ' + line);
+    want(await value("[...document.querySelectorAll('path.arrow[data-line], circle[data-line]')].every(one => " +
+      "one.classList.contains('past') === (Number(one.dataset.line) > " + line + '))'), 'arrows or dots at line ' + line);
   };
   await press('Home');
   await shows(first);

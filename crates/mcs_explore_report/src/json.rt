@@ -11,7 +11,7 @@ use crate::stuck_users::{StuckUsers, seen_at};
 use crate::text::put_verdict;
 use crate::watching::Progress;
 use mcs_lab_check::{LabFault, Names};
-use mcs_lab_inspect::Page;
+use mcs_lab_inspect::{KINDS, NamesMember, Page};
 use mcs_text::Token;
 use mcs_types::{ObjId, Status};
 use std::alloc::Global;
@@ -296,6 +296,16 @@ fn put_counts<P: Progress>(page: &mut Page, findings: &Findings<'_, P>) {
     page.flag_member("whole", orders.is_whole());
 }
 
+/// Puts the names of the objects of the boot as a member, where there are some.
+fn put_names<P: Progress>(page: &mut Page, findings: &Findings<'_, P>) {
+    let script = findings.script;
+    let mut member = NamesMember::new(&script.names, false);
+    for kind in KINDS {
+        member.put_kind(page, *kind, script.boot.made(*kind));
+    }
+    member.end(page);
+}
+
 /// Puts the verdict as the last members, in a word and as the text has it.
 fn put_verdicts<P: Progress>(page: &mut Page, report: &Report<'_, P>) -> Result<(), LabFault> {
     let mut verdict = Page::new(report.findings.alloc)?;
@@ -317,6 +327,7 @@ pub fn write_json<P: Progress, W: Write>(
     put_all_stuck(&mut page, report)?;
     put_entries(&mut page, report);
     put_questions(&mut page, report);
+    put_names(&mut page, &report.findings);
     put_verdicts(&mut page, report)?;
     page.write(to)
 }

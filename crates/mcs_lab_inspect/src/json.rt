@@ -1,11 +1,16 @@
 //! The lines of a book as JSON, an object for each.
 use crate::members::{Member, members_of, put_members, put_value, split_word};
+use crate::named::NamesMember;
 use crate::page::Page;
-use mcs_lab_check::{Judge, LabFault, Last, Names, TakesLines, Told, bare, object_of, take_lines};
+use mcs_lab_check::{
+    Judge, LabFault, Last, Names, TakesLines, Told, bare, object_of, queue_of, take_lines,
+};
 use mcs_lab_forms::{Fields, form_of};
 use mcs_sim::Source;
+use mcs_text::Words;
 use mcs_trace::{Line, spell_answer, spell_record, spell_step};
-use std::alloc::Global;
+use mcs_types::{ObjId, Queue};
+use std::alloc::{AllocError, Global};
 use std::io::{Read, Write};
 
 /// The form of a line, or that of no words.
@@ -78,20 +83,75 @@ fn put_step(alloc: Global, page: &mut Page, names: &Names, step: &[u8]) {
     put_object(alloc, page, &mut fields_of(None, key), None, text);
 }
 
+/// Returns the object that a word names, alone or by one of its queues, if it names one.
+fn object_in(word: &[u8]) -> Option<ObjId> {
+    match queue_of(word) {
+        Some(Queue::Senders(object) | Queue::Receivers(object) | Queue::Waiters(object)) => {
+            Some(object)
+        }
+        None => object_of(word),
+    }
+}
+
+/// The objects that a line of a book names, each once, in the order in which they come.
+#[derive(Drop)]
+struct Mentioned {
+    objects: Vec<ObjId>,
+}
+
+impl Mentioned {
+    /// Adds an object, where it is not there.
+    fn add(&mut self, object: ObjId) -> Result<(), AllocError> {
+        for other in self.objects.iter() {
+            if other.is_same(object) {
+                return Ok(());
+            }
+        }
+        self.objects.push(object)?;
+        Ok(())
+    }
+
+    /// Adds the objects that the words of a text name.
+    fn add_all(&mut self, text: &[u8]) -> Result<(), AllocError> {
+        let mut words = Words::new(text);
+        for _ in 0..text.len() {
+            let Some(word) = words.next_word() else {
+                break;
+            };
+            if let Some(object) = object_in(word) {
+                self.add(object)?;
+            }
+        }
+        Ok(())
+    }
+
+    /// Puts the names of the objects as the last member of an object, and forgets them.
+    fn put_names(&mut self, page: &mut Page, names: &Names) {
+        let mut member = NamesMember::new(names, false);
+        for object in self.objects.iter() {
+            member.put(page, *object);
+        }
+        member.end(page);
+        self.objects.clear();
+    }
+}
+
 /// A script whose book is written as JSON.
 #[derive(Drop)]
 struct Teller {
     judge: Judge,
     names: Names,
+    mentioned: Mentioned,
     spelled: Box<Line>,
     page: Page,
 }
 
-/// Puts on the page the records of a line of a book as JSON. `before` is the number of messages
-/// that were sent before the line.
+/// Puts on the page the records of a line of a book as JSON, and notes the objects that they name.
+/// `before` is the number of messages that were sent before the line.
 fn put_records(
     alloc: Global,
     page: &mut Page,
+    mentioned: &mut Mentioned,
     spelled: &mut Line,
     line: mcs_book::Line<'_>,
     before: u128,
@@ -107,6 +167,9 @@ fn put_records(
         }
         page.between(i == 0);
         put_line(alloc, page, b'+', bare(spelled.text()));
+        if mentioned.add_all(bare(spelled.text())).is_err() {
+            page.cut();
+        }
     }
 }
 
@@ -116,10 +179,12 @@ impl Teller {
         let spelled = Box::new(alloc, Line::new())?;
         let page = Page::new(alloc)?;
         let names = Names::new(alloc);
+        let objects = Vec::new(alloc);
         let judge = Judge::new(alloc)?;
         Ok(Teller {
             judge,
             names,
+            mentioned: Mentioned { objects },
             spelled,
             page,
         })
@@ -134,13 +199,20 @@ impl Teller {
         page.put(b"{\"line\":");
         page.number(self.judge.step().0);
         spell_step(&mut self.spelled, &line.kept_step());
-        put_step(alloc, page, &self.names, bare(self.spelled.text()));
+        let step = bare(self.spelled.text());
+        put_step(alloc, page, &self.names, step);
+        if self.mentioned.add_all(step).is_err() {
+            page.cut();
+        }
         page.put(b",\"answer\":");
         spell_answer(&mut self.spelled, &line.kept_answer());
         put_line(alloc, page, b'=', bare(self.spelled.text()));
         page.put(b",\"records\":[");
-        put_records(alloc, page, &mut self.spelled, line, before);
-        page.put(b"]}\n");
+        let mentioned = &mut self.mentioned;
+        put_records(alloc, page, mentioned, &mut self.spelled, line, before);
+        page.put(b"]");
+        mentioned.put_names(page, &self.names);
+        page.put(b"}\n");
     }
 
     /// Takes a line of a script.

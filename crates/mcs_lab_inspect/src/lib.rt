@@ -5,6 +5,7 @@
 mod hints;
 mod json;
 mod members;
+mod named;
 mod needs;
 mod page;
 mod path;
@@ -17,6 +18,7 @@ mod whole;
 mod why;
 
 pub use json::write_json;
+pub use named::{KINDS, NamesMember};
 pub use page::Page;
 pub use state::{Wanted, show_state};
 pub use whole::{Whole, read_whole};

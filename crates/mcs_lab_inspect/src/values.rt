@@ -1,4 +1,5 @@
 //! The state of each thread, as JSON. The members of an object are in the order of their names.
+use crate::named::{KINDS, NamesMember};
 use crate::page::Page;
 use crate::spaces::object;
 use crate::stuck::Waits;
@@ -281,6 +282,17 @@ impl<'a> Values<'a> {
         page.put(b"],");
     }
 
+    /// Puts the names of all objects, where there are some, and a comma.
+    fn put_names(&self, page: &mut Page) {
+        let mut member = NamesMember::new(self.names, true);
+        for kind in KINDS {
+            member.put_kind(page, *kind, self.kernel.made(*kind));
+        }
+        if member.end(page) {
+            page.put(b",");
+        }
+    }
+
     /// Puts the threads for which a thread waits.
     fn put_waited(&self, page: &mut Page, waits: &Waits, thread: ObjId) {
         let mut is_first = true;
@@ -332,6 +344,9 @@ pub fn put_values(
     if !only_stuck {
         values.put_all(page, b"\"cnodes\":[", Kind::CNode);
         values.put_all(page, b"\"contexts\":[", Kind::Context);
+    }
+    values.put_names(page);
+    if !only_stuck {
         values.put_all(page, b"\"notifications\":[", Kind::Notification);
         page.put(b"\"queues\":[");
         values.put_queues(page);

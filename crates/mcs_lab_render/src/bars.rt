@@ -18,7 +18,7 @@ const HALF: u64 = 6;
 
 const STRIP: u64 = 4;
 
-/// A bar: how a thread looks behind some lines.
+/// A bar: how a thread looks after some lines.
 #[derive(Clone, Copy)]
 struct Bar {
     look: Look,
@@ -45,7 +45,7 @@ pub fn put_state<N: Names>(to: &mut Page, names: &N, look: Look, is_picked: bool
 }
 
 /// Puts a box in the colour of a context.
-pub fn put_coloured(to: &mut Page, context: ObjId, more: &str, area: Area, title: &str) {
+fn put_coloured(to: &mut Page, context: ObjId, more: &str, area: Area, title: &str) {
     let serial = context.serial.saturating_sub(1);
     put_attribute(to, b"<g class=\"k", (serial % COLOURS) as u64);
     to.put(b">");
@@ -71,15 +71,44 @@ fn put_bare(to: &mut Page, area: Area, title: &str) {
     put_area(to, "bare", thin, title)
 }
 
+/// What a bar shows, with the context on which its thread runs or could run, or which it holds
+/// meanwhile.
+#[derive(Clone, Copy)]
+pub enum Shape {
+    /// The kernel picks the thread.
+    Runs(ObjId),
+    /// The thread is ready, and another runs.
+    Ready(ObjId),
+    /// The thread is ready, and holds no context.
+    Bare,
+    /// The thread is blocked.
+    Waits(Option<ObjId>),
+    Inactive(Option<ObjId>),
+    /// There is no bar: the thread is closed.
+    Nothing,
+}
+
+/// Returns what the bar of a thread shows that looks so.
+pub fn shape_of(look: Look, is_picked: bool) -> Shape {
+    match (look.status, look.context) {
+        (Some(Status::Running | Status::Restart), Some(context)) => {
+            if is_picked {
+                Shape::Runs(context)
+            } else {
+                Shape::Ready(context)
+            }
+        }
+        (Some(Status::Running | Status::Restart), None) => Shape::Bare,
+        (Some(Status::Queued(_) | Status::OnReply(_)), context) => Shape::Waits(context),
+        (Some(Status::Inactive), context) => Shape::Inactive(context),
+        (Some(Status::Closed) | None, _) => Shape::Nothing,
+    }
+}
+
 /// Puts the bar of a thread that waits or is inactive, with a strip for the context that it holds.
-fn put_waiting(to: &mut Page, bar: Bar, area: Area, title: &str) {
-    let class = if bar.look.status == Some(Status::Inactive) {
-        "idle"
-    } else {
-        "wait"
-    };
+fn put_holding(to: &mut Page, class: &str, context: Option<ObjId>, area: Area, title: &str) {
     put_area(to, class, area, title);
-    if let Some(context) = bar.look.context {
+    if let Some(context) = context {
         let strip = Area {
             width: STRIP,
             ..area
@@ -89,26 +118,25 @@ fn put_waiting(to: &mut Page, bar: Bar, area: Area, title: &str) {
 }
 
 /// Puts a bar of this title.
-fn put_bar(to: &mut Page, bar: Bar, area: Area, title: &str) {
-    match (bar.look.status, bar.look.context) {
-        (Some(Status::Running | Status::Restart), Some(context)) => {
-            let more = if bar.is_picked { "run" } else { "ready" };
-            put_coloured(to, context, more, area, title)
-        }
-        (Some(Status::Running | Status::Restart), None) => put_bare(to, area, title),
-        (Some(Status::Closed) | None, _) => {}
-        (Some(_), _) => put_waiting(to, bar, area, title),
+pub fn put_bar(to: &mut Page, shape: Shape, area: Area, title: &str) {
+    match shape {
+        Shape::Runs(context) => put_coloured(to, context, "run", area, title),
+        Shape::Ready(context) => put_coloured(to, context, "ready", area, title),
+        Shape::Bare => put_bare(to, area, title),
+        Shape::Waits(context) => put_holding(to, "wait", context, area, title),
+        Shape::Inactive(context) => put_holding(to, "idle", context, area, title),
+        Shape::Nothing => {}
     }
 }
 
-/// Puts the title of a bar: its thread, the lines behind which it looks so, and what it does.
+/// Puts the title of a bar: its thread, the lines after which it looks so, and what it does.
 fn put_title<N: Names>(to: &mut Page, names: &N, thread: ObjId, bar: Bar) {
     put_full_name(to, names, thread);
     if bar.first == bar.last {
-        to.put(b", behind line ");
+        to.put(b", after line ");
         to.count(bar.first);
     } else {
-        to.put(b", behind lines ");
+        to.put(b", after lines ");
         to.count(bar.first);
         to.put(b" to ");
         to.count(bar.last);
@@ -117,7 +145,7 @@ fn put_title<N: Names>(to: &mut Page, names: &N, thread: ObjId, bar: Bar) {
     put_state(to, names, bar.look, bar.is_picked);
 }
 
-/// Puts a bar of this title that ends at this height, and says behind which lines it is.
+/// Puts a bar of this title that ends at this height, and says after which lines it is.
 fn put_group(to: &mut Page, x: u64, bar: Bar, bottom: u64, title: &str) {
     let area = Area {
         x: x.saturating_sub(HALF),
@@ -128,7 +156,7 @@ fn put_group(to: &mut Page, x: u64, bar: Bar, bottom: u64, title: &str) {
     put_attribute(to, b"<g class=\"bar\" data-first=\"", bar.first as u64);
     put_attribute(to, b" data-last=\"", bar.last as u64);
     to.put(b">");
-    put_bar(to, bar, area, title);
+    put_bar(to, shape_of(bar.look, bar.is_picked), area, title);
     to.put(b"</g>\n");
 }
 
@@ -154,7 +182,7 @@ impl<'a, N: Names> Lane<'a, N> {
         }
     }
 
-    /// Takes how the thread looks behind a line: the bar goes on, or ends where this one begins.
+    /// Takes how the thread looks after a line: the bar goes on, or ends where this one begins.
     fn take(&mut self, words: &mut Words, to: &mut Page, next: Bar) {
         let current = self.current;
         self.current = match current {
@@ -170,7 +198,7 @@ impl<'a, N: Names> Lane<'a, N> {
     }
 }
 
-/// Returns how a thread looks behind a line, which is seen at this height.
+/// Returns how a thread looks after a line, which is seen at this height.
 fn bar_of(drawing: &Drawing, thread: ObjId, number: usize, top: u64) -> Bar {
     Bar {
         look: drawing.look(number, place_of(thread)),

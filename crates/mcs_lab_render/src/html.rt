@@ -35,9 +35,10 @@ main>svg{display:block}
 #states li{margin:.3em 0}
 :focus-visible{outline:3px solid #0072b2;outline-offset:-3px}
 #heads{position:sticky;top:0;box-shadow:0 1px #8888;pointer-events:none}
+main:focus-visible>#heads{clip-path:inset(3px 0 -1px)}
 .stepping g.row{cursor:pointer}
-g.row.here text{text-decoration:underline;font-weight:bold}
-g.bar.past,path.arrow.past{opacity:.25}
+g.row.here text{text-decoration:underline;font-weight:bold;stroke:none}
+g.bar.past,path.arrow.past,circle.past{opacity:.25}
 .band{fill:#0072b2;fill-opacity:.1}
 @media (max-width:60em){
 body.stepping{grid-template:minmax(0,1fr) auto/minmax(0,1fr)}
@@ -66,7 +67,7 @@ const BETWEEN: &str = "</main>
 
 /// What follows that title, before the numbers of the first line and the last.
 const PANEL: &str = "</h1>
-<p><label for=\"slider\">Behind line <output id=\"number\"></output></label> (keys: up, down, Home, End; or click a row)</p>
+<p><label for=\"slider\">After line <output id=\"number\"></output></label> (keys: up, down, Home, End; or click a row)</p>
 <input id=\"slider\" type=\"range\" ";
 
 /// What follows those numbers.
@@ -84,7 +85,7 @@ const BEHIND: &str = ">
   const slider = find('slider');
   const rows = [...picture.querySelectorAll('g.row')];
   const bars = [...picture.querySelectorAll('g.bar')];
-  const arrows = [...picture.querySelectorAll('path.arrow[data-line]')];
+  const drawn = [...picture.querySelectorAll('path.arrow[data-line], circle[data-line]')];
   find('side').hidden = false;
   document.body.classList.add('stepping');
   // where rows begin, and where the last one ends
@@ -143,11 +144,11 @@ const BEHIND: &str = ">
       const title = bar.querySelector('title');
       if (first <= line && line <= last && title) {
         const item = document.createElement('li');
-        item.textContent = title.textContent.replace(/, behind lines? [^:]*:/, '');
+        item.textContent = title.textContent.replace(/, after lines? [^:]*:/, '');
         states.append(item);
       }
     }
-    for (const arrow of arrows) arrow.classList.toggle('past', Number(arrow.dataset.line) > line);
+    for (const one of drawn) one.classList.toggle('past', Number(one.dataset.line) > line);
   };
   const go = line => { slider.value = line; show(); };
   const move = by => go(Number(slider.value) + by);
@@ -172,7 +173,7 @@ const BEHIND: &str = ">
     }
     event.preventDefault();
   });
-  main.focus({ preventScroll: true });
+  main.focus({ preventScroll: true, focusVisible: false });
   show();
 })();
 </script>

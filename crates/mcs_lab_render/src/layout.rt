@@ -5,7 +5,8 @@ use crate::notes::{FEW, has_note, marked, put_label, put_look, put_lost, put_mar
 use crate::numbers::put_words;
 use crate::paper::LOST_TEXT;
 use crate::plans::{
-    CLEAR, COLUMN, Ends, HEAD, Note, NoteKind, Plan, RULE, Row, RowKind, SLOT, STEPS_AT, Stroke,
+    CLEAR, COLUMN, Ends, HEAD, LEAST_WIDTH, Note, NoteKind, Plan, RULE, Row, RowKind, SLOT,
+    STEPS_AT, Stroke,
 };
 use crate::scene::{Scene, place_of};
 use crate::steps::Origin;
@@ -93,7 +94,7 @@ fn put_spelled<N: Names>(
     put_words(alloc, &mut words.page, step.entry);
 }
 
-/// Returns the text of a step: as its file tells it, or else as a script spells it.
+/// Returns the text of a step: as its file has it, or else as a script spells it.
 fn step_text<N: Names>(
     alloc: Global,
     words: &mut Words,
@@ -127,7 +128,7 @@ fn why_away(why: EnterFault) -> &'static str {
 }
 
 impl<'a, N: Names> Planner<'a, N> {
-    /// How the thread of a lane looks behind a line.
+    /// How the thread of a lane looks after a line.
     fn look(&self, number: usize, lane: usize) -> Look {
         match self.plan.threads.get(lane) {
             Some(thread) => self.scene.drawing.look(number, place_of(*thread)),
@@ -198,7 +199,7 @@ impl<'a, N: Names> Planner<'a, N> {
         self.line_rows.get(at).copied().unwrap_or(0)
     }
 
-    /// The arrow of the record that has the next one.
+    /// Takes the next arrow: that of the next record that has one.
     fn take_arrow(&mut self) -> Option<Arrow> {
         let drawing = self.scene.drawing;
         let arrow = drawing.strokes.arrows().get(self.next_arrow).copied();
@@ -206,7 +207,7 @@ impl<'a, N: Names> Planner<'a, N> {
         arrow
     }
 
-    /// The text of what an arrow says, with up to so many words of a message.
+    /// Puts what an arrow says, with up to so many words of a message.
     fn say(&mut self, arrow: &Arrow, fact: &Rec, most: usize) {
         put_label(
             self.alloc,
@@ -439,7 +440,7 @@ impl<'a, N: Names> Planner<'a, N> {
         Ok(())
     }
 
-    /// Lays out the row of a line, with its step and its answer.
+    /// Lays out the row of a line, with its step and its result.
     fn row_of(&mut self, line: &BookLine<'_>, here: Point) -> Result<Row, AllocError> {
         let scene = self.scene;
         let kept = line.kept_step();
@@ -455,12 +456,12 @@ impl<'a, N: Names> Planner<'a, N> {
         };
         row.step = step_text(self.alloc, &mut self.words, scene, origin, step)?;
         spell_answer(&mut self.word, &line.kept_answer());
-        let told = spelled(&self.word);
-        if told.starts_with("= refused") {
+        let result = spelled(&self.word);
+        if result.starts_with("= refused") {
             row.kind = RowKind::Refused;
         }
-        put_words(self.alloc, &mut self.words.page, told);
-        row.told = self.words.take_cut(STEP_COLUMNS)?;
+        put_words(self.alloc, &mut self.words.page, result);
+        row.result = self.words.take_cut(STEP_COLUMNS)?;
         Ok(row)
     }
 
@@ -565,7 +566,7 @@ impl<'a, N: Names> Planner<'a, N> {
             entry: entry_part(away.text.as_str()),
         };
         row.step = step_text(self.alloc, &mut self.words, scene, origin, step)?;
-        row.told.push_str(why_away(away.why))?;
+        row.result.push_str(why_away(away.why))?;
         self.plan.rows.push(row)?;
         Ok(())
     }
@@ -733,7 +734,7 @@ impl<'a, N: Names> Planner<'a, N> {
         let mut most = 0;
         for row in self.plan.rows.iter() {
             most = columns(row.step.as_str())
-                .max(columns(row.told.as_str()))
+                .max(columns(row.result.as_str()))
                 .max(most);
         }
         most.saturating_mul(COLUMN).saturating_add(STEPS_AT + 16)
@@ -747,7 +748,7 @@ impl<'a, N: Names> Planner<'a, N> {
             self.plan.lanes.push(at)?;
             at = at.saturating_add(*gap);
         }
-        self.plan.width = at.saturating_add(12);
+        self.plan.width = at.saturating_add(12).max(LEAST_WIDTH);
         Ok(())
     }
 

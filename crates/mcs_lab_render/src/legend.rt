@@ -1,14 +1,14 @@
 //! What is below the lanes: what every thread does at the end, and what the colours and lines mean.
-use crate::bars::{put_coloured, put_state};
+use crate::bars::{Shape, put_bar, put_state, shape_of};
 use crate::naming::{Names, put_full_name};
-use crate::notes::is_ready;
-use crate::paper::{Area, put_area, put_far, put_lost_line, put_point, put_text};
-use crate::plans::{COLUMN, Plan, SLOT};
+use crate::paper::{Area, put_far, put_lost_line, put_point, put_text};
+use crate::plans::{COLUMN, Counts, Plan, SLOT};
 use crate::scene::{Scene, place_of};
 use crate::texts::{Words, columns};
 use mcs_lab_diagram::{Drawing, Look};
 use mcs_lab_inspect::Page;
 use mcs_types::{Kind, ObjId};
+use std::alloc::{AllocError, Global};
 
 /// The left edge, and the widths of the samples of bars and of arrows.
 const LEFT: u64 = 12;
@@ -30,7 +30,7 @@ fn put_place(to: &mut Page, drawing: &Drawing, last: usize) {
     if last == drawing.lines() {
         return to.put(b"At the end");
     }
-    to.put(b"Behind line ");
+    to.put(b"After line ");
     to.count(last);
 }
 
@@ -111,44 +111,112 @@ fn put_line(to: &mut Page, class: &str, area: Area) {
     to.put(b"\"/>\n");
 }
 
-/// What of the legend is seen on a page: threads that are ready while another runs, threads that
-/// are ready without a context, and sends that reached nobody.
-#[derive(Clone, Copy)]
-struct Seen {
-    is_passed_over: bool,
-    is_bare: bool,
-    is_lost: bool,
+/// Returns the place in the legend of a bar that does more than run; None for the others.
+fn place_in_legend(shape: Shape) -> Option<usize> {
+    match shape {
+        Shape::Ready(_) => Some(0),
+        Shape::Bare => Some(1),
+        Shape::Waits(None) => Some(2),
+        Shape::Waits(Some(_)) => Some(3),
+        Shape::Inactive(None) => Some(4),
+        Shape::Inactive(Some(_)) => Some(5),
+        Shape::Runs(_) | Shape::Nothing => None,
+    }
+}
+
+/// How many places of bars the legend has.
+const PLACES: usize = 6;
+
+/// Returns what a bar means.
+fn meaning_of(shape: Shape) -> &'static str {
+    match shape {
+        Shape::Runs(_) => "runs",
+        Shape::Ready(_) => "ready, another runs",
+        Shape::Bare => "ready, no context",
+        Shape::Waits(None) => "waits",
+        Shape::Waits(Some(_)) => "waits, holds a context",
+        Shape::Inactive(None) => "inactive",
+        Shape::Inactive(Some(_)) => "inactive, holds a context",
+        Shape::Nothing => "closed",
+    }
+}
+
+/// Returns the context that gives a bar its colour, if it has one.
+fn context_of(shape: Shape) -> Option<ObjId> {
+    match shape {
+        Shape::Runs(context) | Shape::Ready(context) => Some(context),
+        Shape::Waits(context) | Shape::Inactive(context) => context,
+        Shape::Bare | Shape::Nothing => None,
+    }
+}
+
+/// The bars that are seen on a page: the legend has no others.
+#[derive(Drop)]
+pub struct Seen {
+    /// Whether a bar has the colour of a context, by the places of the contexts.
+    contexts: Vec<bool>,
+    /// The first bar of each meaning, by its place in the legend.
+    shapes: Vec<Option<Shape>>,
 }
 
 impl Seen {
-    /// Sees how a thread looks.
-    fn see(&mut self, look: Look, is_picked: bool) {
-        if !is_ready(look.status) {
-            return;
+    /// Returns that no bar is seen, where there are so many contexts.
+    fn new(alloc: Global, contexts: u32) -> Result<Seen, AllocError> {
+        let mut seen = Seen {
+            contexts: Vec::new(alloc),
+            shapes: Vec::new(alloc),
+        };
+        for _ in 0..contexts {
+            seen.contexts.push(false)?;
         }
-        if look.context.is_none() {
-            self.is_bare = true;
-        } else if !is_picked {
-            self.is_passed_over = true;
+        for _ in 0..PLACES {
+            seen.shapes.push(None)?;
+        }
+        Ok(seen)
+    }
+
+    /// Returns whether some bar has the colour of a context.
+    fn has_colour_of(&self, context: ObjId) -> bool {
+        match context.place(Kind::Context) {
+            Some(place) => self.contexts.get(place).copied().unwrap_or(false),
+            None => false,
+        }
+    }
+
+    /// Notes that the colour of a context is seen.
+    fn see_context(&mut self, context: ObjId) {
+        if let Some(place) = context.place(Kind::Context)
+            && let Some(is_seen) = self.contexts.get_mut(place)
+        {
+            *is_seen = true;
+        }
+    }
+
+    /// Notes that a bar is seen.
+    fn see(&mut self, shape: Shape) {
+        if let Some(context) = context_of(shape) {
+            self.see_context(context);
+        }
+        if let Some(place) = place_in_legend(shape)
+            && let Some(first) = self.shapes.get_mut(place)
+            && first.is_none()
+        {
+            *first = Some(shape);
         }
     }
 }
 
-/// Returns what is seen on a page.
-fn seen_in(drawing: &Drawing, plan: &Plan) -> Seen {
-    let mut seen = Seen {
-        is_passed_over: false,
-        is_bare: false,
-        is_lost: plan.notes.iter().any(|note| note.kind.is_lost()),
-    };
+/// Returns the bars that are seen on a page.
+pub fn seen_in(alloc: Global, drawing: &Drawing, plan: &Plan) -> Result<Seen, AllocError> {
+    let mut seen = Seen::new(alloc, drawing.kernel.made(Kind::Context))?;
     for at in 0..plan.events.len() {
         let number = plan.before.saturating_add(at);
         for thread in plan.threads.iter() {
-            let is_picked = drawing.is_picked(number, *thread);
-            seen.see(drawing.look(number, place_of(*thread)), is_picked);
+            let look = drawing.look(number, place_of(*thread));
+            seen.see(shape_of(look, drawing.is_picked(number, *thread)));
         }
     }
-    seen
+    Ok(seen)
 }
 
 /// Puts what a context is called in the legend.
@@ -161,29 +229,43 @@ fn put_context_name<N: Names>(to: &mut Page, names: &N, drawing: &Drawing, conte
     }
 }
 
-/// Puts what the colour of a context means.
-fn put_context(to: &mut Page, legend: &mut Legend, context: ObjId, text: &str) {
+/// Puts what a bar means.
+fn put_shape(to: &mut Page, legend: &mut Legend, shape: Shape, text: &str) {
     let area = legend.next(BAR, text);
-    put_coloured(to, context, "run", area, "");
+    put_bar(to, shape, area, "");
     put_meaning(to, area, BAR, text);
 }
 
-/// Puts what the colours mean.
+/// Puts what the colour of a context means.
+fn put_context<N: Names>(
+    words: &mut Words,
+    to: &mut Page,
+    scene: &Scene<'_, N>,
+    legend: &mut Legend,
+    context: ObjId,
+) {
+    put_context_name(&mut words.page, scene.names, scene.drawing, context);
+    match words.take() {
+        Ok(text) => put_shape(to, legend, Shape::Runs(context), text.as_str()),
+        Err(_) => to.cut(),
+    }
+}
+
+/// Puts what the colours mean that are seen.
 fn put_contexts<N: Names>(
     words: &mut Words,
     to: &mut Page,
     scene: &Scene<'_, N>,
     legend: &mut Legend,
+    seen: &Seen,
 ) {
     for serial in 1..=scene.drawing.kernel.made(Kind::Context) {
         let context = ObjId {
             kind: Kind::Context,
             serial,
         };
-        put_context_name(&mut words.page, scene.names, scene.drawing, context);
-        match words.take() {
-            Ok(text) => put_context(to, legend, context, text.as_str()),
-            Err(_) => to.cut(),
+        if seen.has_colour_of(context) {
+            put_context(words, to, scene, legend, context);
         }
     }
 }
@@ -194,6 +276,7 @@ pub fn put_legend<N: Names>(
     to: &mut Page,
     scene: &Scene<'_, N>,
     plan: &Plan,
+    seen: &Seen,
     above: u64,
 ) -> u64 {
     let mut legend = Legend {
@@ -201,72 +284,32 @@ pub fn put_legend<N: Names>(
         y: above.saturating_add(30),
         width: plan.width,
     };
-    put_contexts(words, to, scene, &mut legend);
-    let seen = seen_in(scene.drawing, plan);
-    put_bar_kinds(to, &mut legend, seen);
-    put_arrow_kinds(to, &mut legend, seen);
+    put_contexts(words, to, scene, &mut legend, seen);
+    for shape in seen.shapes.iter() {
+        if let Some(shape) = *shape {
+            put_shape(to, &mut legend, shape, meaning_of(shape));
+        }
+    }
+    put_arrow_kinds(to, &mut legend, plan.counts());
     legend.y
 }
 
-/// Puts what a bar of this class means.
-fn put_kind(to: &mut Page, legend: &mut Legend, class: &str, text: &str) {
-    let area = legend.next(BAR, text);
-    put_area(to, class, area, "");
-    put_meaning(to, area, BAR, text);
-}
-
-/// Puts what the thin bars of ready threads mean.
-fn put_bare_kind(to: &mut Page, legend: &mut Legend) {
-    let area = legend.next(BAR, "ready, no context");
-    let thin = Area {
-        x: area.x.saturating_add(5),
-        width: 2,
-        ..area
-    };
-    put_area(to, "bare", thin, "");
-    put_meaning(to, area, BAR, "ready, no context");
-}
-
-/// Puts what bars of ready threads mean that do not run.
-fn put_ready_kinds(to: &mut Page, legend: &mut Legend, seen: Seen, first: ObjId) {
-    if seen.is_passed_over {
-        let area = legend.next(BAR, "ready, another runs");
-        put_coloured(to, first, "ready", area, "");
-        put_meaning(to, area, BAR, "ready, another runs");
+/// Puts what arrows of this class mean, where there are some.
+fn put_arrow_kind(to: &mut Page, legend: &mut Legend, class: &str, count: usize, text: &str) {
+    if count == 0 {
+        return;
     }
-    if seen.is_bare {
-        put_bare_kind(to, legend);
-    }
-}
-
-/// Puts what bars without a colour of their own mean.
-fn put_bar_kinds(to: &mut Page, legend: &mut Legend, seen: Seen) {
-    let first = ObjId {
-        kind: Kind::Context,
-        serial: 1,
-    };
-    put_ready_kinds(to, legend, seen, first);
-    put_kind(to, legend, "wait", "waits");
-    let area = legend.next(BAR, "waits, holds a context");
-    put_area(to, "wait", area, "");
-    put_coloured(to, first, "run", Area { width: 4, ..area }, "");
-    put_meaning(to, area, BAR, "waits, holds a context");
-    put_kind(to, legend, "idle", "inactive");
-}
-
-/// Puts what arrows of this class mean.
-fn put_arrow_kind(to: &mut Page, legend: &mut Legend, class: &str, text: &str) {
     let area = legend.next(ARROW, text);
     put_line(to, class, area);
     put_meaning(to, area, ARROW, text);
 }
 
-/// Puts what arrows mean.
-fn put_arrow_kinds(to: &mut Page, legend: &mut Legend, seen: Seen) {
-    put_arrow_kind(to, legend, "message", "message");
-    put_arrow_kind(to, legend, "answer", "answer");
-    put_arrow_kind(to, legend, "word", "signal");
-    if seen.is_lost {
+/// Puts what the arrows mean that are seen.
+fn put_arrow_kinds(to: &mut Page, legend: &mut Legend, counts: Counts) {
+    put_arrow_kind(to, legend, "message", counts.messages, "message");
+    put_arrow_kind(to, legend, "answer", counts.answers, "answer");
+    put_arrow_kind(to, legend, "word", counts.words, "signal");
+    if counts.lost > 0 {
         let area = legend.next(ARROW, "dropped: reached nobody");
         put_lost_line(to, None, area.x, area.y.saturating_add(7));
         put_meaning(to, area, ARROW, "dropped: reached nobody");

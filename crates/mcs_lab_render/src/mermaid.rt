@@ -134,7 +134,7 @@ fn put_idle_step(to: &mut Page, row: &Row) {
     put_over(to, thread);
     put_text(to, row.step.as_str());
     to.put(b" ");
-    put_plain(to, row.told.as_str());
+    put_plain(to, row.result.as_str());
 }
 
 /// Puts the arrows of a row, from a place on. Gives the place of the first that is left.

@@ -131,7 +131,7 @@ text{font:11px 'DejaVu Sans Mono',Menlo,Consolas,monospace;fill:#111;paint-order
 .head-text{font-weight:bold;text-anchor:middle;stroke:none}
 .head-more{text-anchor:middle;stroke:none}
 .number{text-anchor:end;fill:#767676}
-.told{fill:#00664a}
+.result{fill:#00664a}
 .refused{fill:#a63c00;font-weight:bold}
 .away{fill:#767676;font-style:italic}
 .note{fill:#444}
@@ -140,7 +140,7 @@ text.lost{fill:#6b6b6b}
 .label{text-anchor:middle}
 .strong{font-weight:bold}
 .rule{stroke:#ddd}
-.dot{fill:#111}
+.dot{fill:#111;stroke:#fff;stroke-width:2;paint-order:stroke}
 .idle-dot{fill:#fff;stroke:#555}
 .arrow{fill:none;stroke:#111;stroke-width:1.4}
 .answer{stroke-dasharray:7 3}
@@ -167,16 +167,17 @@ text{fill:#eee;stroke:#161616}
 .ground{fill:#161616}
 .head{fill:#2a2a2a;stroke:#999}
 .number,.away{fill:#9a9a9a}
-.told{fill:#4fd1a5}
+.result{fill:#4fd1a5}
 .refused{fill:#ff9a5c}
 .mark{fill:#b3c2f2}
 text.lost{fill:#9a9a9a}
 .note{fill:#bbb}
 .rule{stroke:#333}
 .dot,.tip{fill:#eee}
+.dot{stroke:#161616}
+.idle-dot{fill:#161616;stroke:#bbb}
 .arrow{stroke:#eee}
 path.lost{stroke:#8a8a8a}
-.k0{fill:#3d9be0;stroke:#3d9be0}
 .bare{fill:#aaa}
 .hatch{fill:#2a2a2a}
 .hatch-line{fill:#666}

@@ -38,6 +38,9 @@ pub const STEPS_AT: u64 = 110;
 /// How far the line across a row is above what it has.
 pub const RULE: u64 = 5;
 
+/// The least width of a page: the legend below few lanes needs it.
+pub const LEAST_WIDTH: u64 = 560;
+
 /// What a row shows.
 #[derive(Clone, Copy, PartialEq, Eq, Debug)]
 pub enum RowKind {
@@ -62,7 +65,7 @@ pub struct Row {
     /// The thread that enters, if it has a lane.
     pub thread: Option<ObjId>,
     pub step: String,
-    pub told: String,
+    pub result: String,
     pub arrows: usize,
     pub slots: usize,
     pub top: u64,
@@ -77,7 +80,7 @@ impl Row {
             line: None,
             thread: None,
             step: String::new(alloc),
-            told: String::new(alloc),
+            result: String::new(alloc),
             arrows: 0,
             slots: 2,
             top: 0,
@@ -123,11 +126,6 @@ impl NoteKind {
             NoteKind::Lost | NoteKind::Comes(_) | NoteKind::Goes(_) => true,
             NoteKind::Label | NoteKind::State | NoteKind::Mark => false,
         }
-    }
-
-    /// Whether it is a send that reached nobody.
-    pub fn is_lost(self) -> bool {
-        matches!(self, NoteKind::Lost)
     }
 }
 
@@ -176,6 +174,35 @@ impl Stroke {
     }
 }
 
+/// How many arrows of each kind a page has, and how many sends that reached nobody.
+#[derive(Clone, Copy)]
+pub struct Counts {
+    pub messages: usize,
+    pub answers: usize,
+    pub words: usize,
+    pub lost: usize,
+}
+
+impl Counts {
+    /// Counts an arrow.
+    fn count(&mut self, shown: Shown) {
+        match shown {
+            Shown::Message(_) => self.messages = self.messages.saturating_add(1),
+            Shown::Answer(_) => self.answers = self.answers.saturating_add(1),
+            Shown::Word(_) => self.words = self.words.saturating_add(1),
+        }
+    }
+
+    /// Counts the short line of a note, where there is one.
+    fn count_note(&mut self, kind: NoteKind) {
+        match kind {
+            NoteKind::Comes(shown) | NoteKind::Goes(shown) => self.count(shown),
+            NoteKind::Lost => self.lost = self.lost.saturating_add(1),
+            NoteKind::Label | NoteKind::State | NoteKind::Mark => {}
+        }
+    }
+}
+
 /// The page.
 #[derive(Drop)]
 pub struct Plan {
@@ -217,5 +244,22 @@ impl Plan {
     /// The lane of a thread, if it has one.
     pub fn lane_of(&self, thread: ObjId) -> Option<usize> {
         lane_in(&self.threads, thread)
+    }
+
+    /// Returns how many arrows of each kind the page has.
+    pub fn counts(&self) -> Counts {
+        let mut counts = Counts {
+            messages: 0,
+            answers: 0,
+            words: 0,
+            lost: 0,
+        };
+        for stroke in self.strokes.iter() {
+            counts.count(stroke.arrow.shown);
+        }
+        for note in self.notes.iter() {
+            counts.count_note(note.kind);
+        }
+        counts
     }
 }

@@ -32,7 +32,7 @@ pub fn lane_in(threads: &[ObjId], thread: ObjId) -> Option<usize> {
     None
 }
 
-/// Returns whether a thread has done all that it is there for, behind a line: it has the name of
+/// Returns whether a thread has done all that it is there for, after a line: it has the name of
 /// the thread by which plans start others, and is inactive.
 fn is_done<N: Names>(drawing: &Drawing, names: &N, thread: ObjId, line: usize) -> bool {
     let Some(name) = names.name(thread) else {
@@ -42,7 +42,7 @@ fn is_done<N: Names>(drawing: &Drawing, names: &N, thread: ObjId, line: usize) -
     name == STARTER && look.status == Some(Status::Inactive)
 }
 
-/// Returns the threads that have lanes where none is asked for: all that have not done behind this
+/// Returns the threads that have lanes where none is asked for: all that have not done after this
 /// line what they are there for.
 fn busy_threads<N: Names>(
     alloc: Global,
@@ -84,7 +84,7 @@ fn asked_threads(
 }
 
 /// Returns the threads that have lanes, in their order: those that are wanted. Where none is, all
-/// have one, but for the thread by which plans start others where it is inactive behind the last
+/// have one, but for the thread by which plans start others where it is inactive after the last
 /// line that is shown.
 pub fn threads_shown<N: Names>(
     alloc: Global,

@@ -29,19 +29,19 @@ pub enum Format {
     Html,
 }
 
-/// What is drawn of a script, and how it is told.
+/// What is drawn of a script, and the texts of its steps.
 #[derive(Clone, Copy)]
 pub struct Asked<'a> {
     pub format: Format,
     /// The lines of the book that are shown, as far as they are there.
     pub window: Window,
     /// The threads that have lanes, in their order. Where none is named all have one, but for a
-    /// thread `starter` that is inactive behind the last line: by it plans start passive servers.
+    /// thread `starter` that is inactive after the last line: by it plans start passive servers.
     pub threads: &'a [ObjId],
-    /// How the steps are told, by the lines of the script in which they stand: where the text of a
-    /// line is empty or not there, as the script spells it, with the names of threads.
+    /// The texts of the steps, by their lines in the script. Where a text is empty or not there,
+    /// the picture has the step as the script spells it, with the names of threads.
     pub texts: &'a [String],
-    /// The lines of the file of which those of the script came; a line without a number is its own.
+    /// The line of the file for each line of the script; one without a number is its own.
     pub numbers: &'a [u64],
 }
 
@@ -64,8 +64,8 @@ impl Asked<'_> {
     fn origin(&self, alloc: Global, line: u64) -> Result<Origin, AllocError> {
         let place = line.saturating_sub(1) as usize;
         let mut text = String::new(alloc);
-        if let Some(told) = self.texts.get(place) {
-            text.push_str(told.as_str())?;
+        if let Some(given) = self.texts.get(place) {
+            text.push_str(given.as_str())?;
         }
         let line = self.numbers.get(place).copied().unwrap_or(line);
         Ok(Origin { line, text })
@@ -114,15 +114,15 @@ impl Model for Drawn {
 }
 
 impl Drawn {
-    /// Of the boot.
+    /// Returns the drawing of a boot.
     fn new(alloc: Global, boot: &Boot) -> Result<Drawn, LabFault> {
         let drawing = Drawing::new(alloc, boot)?;
         let steps = Steps::new(alloc);
         Ok(Drawn { drawing, steps })
     }
 
-    /// With a step more, whose line is this, and which stands there. The faults of a drawing are
-    /// reported as those of a script.
+    /// Returns the drawing with one more step, of this line and this origin. The faults of a
+    /// drawing are reported as those of a script.
     fn with_step(
         self,
         alloc: Global,
@@ -145,7 +145,7 @@ impl Drawn {
     }
 }
 
-/// The room for a message.
+/// Returns the room for a message.
 fn new_room(alloc: Global) -> Result<Room, LabFault> {
     match Room::new(alloc) {
         Ok(room) => Ok(room),
@@ -153,7 +153,7 @@ fn new_room(alloc: Global) -> Result<Room, LabFault> {
     }
 }
 
-/// The boot of a book.
+/// Returns the boot of a book.
 fn boot_of(alloc: Global, book: &Book) -> Result<Boot, LabFault> {
     let Ok(mut boot) = Boot::new(alloc, book.cores()) else {
         return Err(LabFault::OutOfMemory);

@@ -1,8 +1,8 @@
-//! Where the steps of a drawing stand, and how they are told.
+//! The origins of the steps of a drawing: their lines in the file that was given, and their texts.
 use std::alloc::{AllocError, Global};
 
-/// The origin of a step: the line of the file that was given, and the text by which that tells it;
-/// an empty one where it is told as a script spells it.
+/// The origin of a step: its line in the file that was given, and its text there. Where the text is
+/// empty a picture has the step as a script spells it.
 #[derive(Drop)]
 pub struct Origin {
     pub line: u64,
@@ -26,8 +26,9 @@ impl Steps {
         }
     }
 
-    /// Adds a step behind which the book has so many lines, without that of the boot: more than
-    /// steps before where it was let in. AllocError where memory was refused.
+    /// Adds a step after which the book has so many lines, without that of the boot. The step was
+    /// skipped unless these are more than the steps in the book so far. AllocError where memory was
+    /// refused.
     pub fn add(&mut self, origin: Origin, lines: usize) -> Result<(), AllocError> {
         if lines > self.entered.len() {
             self.entered.push(origin)?;

@@ -1,7 +1,7 @@
 //! The picture as SVG.
 use crate::bars::put_bars;
 use crate::layout::plan_of;
-use crate::legend::{put_end, put_legend};
+use crate::legend::{Seen, put_end, put_legend, seen_in};
 use crate::naming::{Names, put_full_name};
 use crate::paper::{
     Area, LOST_TEXT, STYLE, Way, put_area, put_attribute, put_far, put_lost_line, put_point,
@@ -105,14 +105,14 @@ fn put_file_number(to: &mut Page, row: &Row, first: u64) {
     }
 }
 
-/// Puts the numbers of a line, its step and its answer.
-fn put_told(to: &mut Page, row: &Row, class: &str, first: u64) {
+/// Puts the numbers of a line, its step and its result.
+fn put_step(to: &mut Page, row: &Row, class: &str, first: u64) {
     put_row(to, row.number);
     put_number(to, NUMBERS_AT, first, row.number as u64);
     put_file_number(to, row, first);
     put_text(to, "step", STEPS_AT, first, row.step.as_str());
     let second = first.saturating_add(SLOT);
-    put_text(to, class, STEPS_AT, second, row.told.as_str());
+    put_text(to, class, STEPS_AT, second, row.result.as_str());
     to.put(b"</g>\n");
 }
 
@@ -130,10 +130,10 @@ fn put_margin(to: &mut Page, plan: &Plan, row: &Row) {
             put_file_number(to, row, first);
             put_text(to, "away", STEPS_AT, first, row.step.as_str());
             let second = first.saturating_add(SLOT);
-            put_text(to, "away", STEPS_AT, second, row.told.as_str())
+            put_text(to, "away", STEPS_AT, second, row.result.as_str())
         }
-        RowKind::Line => put_told(to, row, "told", first),
-        RowKind::Refused => put_told(to, row, "refused", first),
+        RowKind::Line => put_step(to, row, "result", first),
+        RowKind::Refused => put_step(to, row, "refused", first),
     }
 }
 
@@ -149,7 +149,8 @@ fn put_dot(to: &mut Page, plan: &Plan, row: &Row) {
     };
     to.put(b"<circle class=\"");
     to.put(class.as_bytes());
-    put_attribute(to, b"\" cx=\"", lane_at(plan, lane));
+    put_attribute(to, b"\" data-line=\"", row.number as u64);
+    put_attribute(to, b" cx=\"", lane_at(plan, lane));
     put_attribute(to, b" cy=\"", row.event());
     to.put(b" r=\"3.5\"/>\n");
 }
@@ -172,10 +173,19 @@ fn aside(x: u64, is_right: bool, far: u64) -> u64 {
     }
 }
 
-/// Puts the line of an arrow to its own lane.
-fn put_turn(to: &mut Page, lane: u64, top: u64) {
+/// Puts the line of an arrow to its own lane. One that waited runs down beside the lane before it
+/// turns back.
+fn put_turn(to: &mut Page, plan: &Plan, stroke: &Stroke, lane: u64) {
+    let top = slot_top(plan, stroke.row, stroke.slot);
     let x = lane.saturating_add(TIP);
-    put_point(to, b"M", x, top.saturating_add(1));
+    match plan.rows.get(stroke.from_row) {
+        Some(row) if stroke.from_row != stroke.row => {
+            put_point(to, b"M", lane.saturating_add(EDGE), row.event());
+            put_far(to, b"H", lane.saturating_add(BESIDE));
+            put_far(to, b"V", top.saturating_add(1));
+        }
+        _ => put_point(to, b"M", x, top.saturating_add(1)),
+    }
     put_far(to, b"H", lane.saturating_add(TURN));
     put_far(to, b"V", top.saturating_add(LABEL_AT));
     put_far(to, b"H", x);
@@ -204,7 +214,7 @@ fn put_path(to: &mut Page, plan: &Plan, stroke: &Stroke) {
     let (from, end) = (stroke.ends.from, stroke.ends.to);
     let (a, b) = (lane_at(plan, from), lane_at(plan, end));
     if from == end {
-        return put_turn(to, a, slot_top(plan, stroke.row, stroke.slot));
+        return put_turn(to, plan, stroke, a);
     }
     put_way(to, plan, stroke, a, b);
 }
@@ -333,49 +343,12 @@ fn lines_in(plan: &Plan) -> usize {
     lines
 }
 
-/// How many arrows of each kind a page has.
-#[derive(Clone, Copy)]
-struct Counts {
-    messages: usize,
-    answers: usize,
-    words: usize,
-}
-
-impl Counts {
-    /// Counts what an arrow shows.
-    fn count(&mut self, shown: Shown) {
-        match shown {
-            Shown::Message(_) => self.messages = self.messages.saturating_add(1),
-            Shown::Answer(_) => self.answers = self.answers.saturating_add(1),
-            Shown::Word(_) => self.words = self.words.saturating_add(1),
-        }
-    }
-}
-
-/// Returns how many arrows of each kind a page has.
-fn counts_of(plan: &Plan) -> Counts {
-    let mut counts = Counts {
-        messages: 0,
-        answers: 0,
-        words: 0,
-    };
-    for stroke in plan.strokes.iter() {
-        counts.count(stroke.arrow.shown);
-    }
-    for note in plan.notes.iter() {
-        if let NoteKind::Comes(shown) | NoteKind::Goes(shown) = note.kind {
-            counts.count(shown);
-        }
-    }
-    counts
-}
-
 /// Puts what is read aloud of the picture: its title, and how much it shows.
 fn put_title(to: &mut Page, plan: &Plan, title: &str) {
     to.put(b"<title>");
     put_escaped(to, title);
     to.put(b"</title>\n<desc>");
-    let counts = counts_of(plan);
+    let counts = plan.counts();
     to.counted(plan.threads.len(), "thread");
     to.put(b", ");
     to.counted(lines_in(plan), "line");
@@ -399,10 +372,16 @@ fn put_size(to: &mut Page, width: u64, height: u64) {
 }
 
 /// Puts the lanes and what is below them, and gives the height of the page.
-fn put_body<N: Names>(words: &mut Words, to: &mut Page, scene: &Scene<'_, N>, plan: &Plan) -> u64 {
+fn put_body<N: Names>(
+    words: &mut Words,
+    to: &mut Page,
+    scene: &Scene<'_, N>,
+    plan: &Plan,
+    seen: &Seen,
+) -> u64 {
     put_all(words, to, scene, plan);
     let below = put_end(words, to, scene, plan);
-    put_legend(words, to, scene, plan, below).saturating_add(20)
+    put_legend(words, to, scene, plan, seen, below).saturating_add(20)
 }
 
 /// Returns the picture of a scene, as SVG with this title.
@@ -414,9 +393,10 @@ pub fn svg_of<N: Names>(
     let plan = plan_of(alloc, scene)?;
     let mut words = Words::new(alloc)?;
     let mut page = Page::new(alloc)?;
-    let height = put_body(&mut words, &mut page, scene, &plan);
+    let seen = seen_in(alloc, scene.drawing, &plan)?;
+    let height = put_body(&mut words, &mut page, scene, &plan, &seen);
     let body = take_text(alloc, &mut page)?;
-    put_size(&mut page, plan.width.max(560), height);
+    put_size(&mut page, plan.width, height);
     put_title(&mut page, &plan, title);
     page.put(STYLE.as_bytes());
     page.put(b"<rect class=\"ground\" width=\"100%\" height=\"100%\"/>\n");

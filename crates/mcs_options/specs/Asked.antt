@@ -14,7 +14,7 @@ use Rattle.mcs_options.specs.declared.choice.Task.TheVariants.{Replay, Run}
 
 -- ---- what is asked for
 
--- what is done, the file that is read, and whether a fault is told in words
+-- what is done, the file that is read, and whether a fault is explained
 pub record Choice : Type 0 where
   pub task : Task
   pub file : Option Text

@@ -18,7 +18,7 @@ cores_option = record (new_rule (codes "cores")) {
   parser = Some (value.Signed (pos 1) (pos core_limit));
 }
 
--- the option that has a fault told in words
+-- the option to explain a fault
 abbrev pub explain_option : Rule
 explain_option = record (new_rule (codes "explain")) { long = Some (codes "explain"); action = Some SetTrue }
 
@@ -38,7 +38,7 @@ run_line = with_rule (with_rule (with_rule (new_app (codes "run")) cores_option)
 abbrev pub with_command_required : App → App
 with_command_required a = record a { top = record a.top { subcommand_required = true } }
 
--- a command line that tells its version
+-- a command line with an option for its version
 abbrev pub with_version : App → App
 with_version a = record a { top = record a.top { has_version = true } }
 

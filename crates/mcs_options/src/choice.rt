@@ -17,6 +17,6 @@ pub struct Options<'a> {
     pub task: Task,
     /// The file that is read: the standard input, where it is None.
     pub file: Option<&'a str>,
-    /// Whether a fault is told in words, too.
+    /// Whether the message of a fault has a second line that explains it.
     pub explain: bool,
 }

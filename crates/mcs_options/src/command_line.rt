@@ -27,14 +27,14 @@ fn cores<'a>(alloc: Global) -> Arg<'a>
         .value_parser(value_parser!(u8).range(1..=i64::from(CORES)))
 }
 
-/// The option that has a fault told in words, too.
+/// The option to explain a fault on a second line.
 fn explain<'a>(alloc: Global) -> Arg<'a>
     ensures rule { rule_of result ≡ explain_option }
     ensures local { result.global ≡ false }
 {
     Arg::new(alloc, "explain")
         .long("explain")
-        .help("Tell a fault in words, too, on a second line")
+        .help("Explain a fault on a second line")
         .action(ArgAction::SetTrue)
 }
 
@@ -135,7 +135,7 @@ fn chosen<'a>(matches: &ArgMatches<'a>) -> Options<'a>
 
 /// What the words of the command line ask for; the first is the program's name. An error says what
 /// is wrong with them, or has the help or the version that was asked for: it is of a kind that the
-/// rules of the command line give these words, or tells that there was no memory; and where they
+/// rules of the command line give these words, or reports that memory was refused; and where they
 /// give a kind it comes.
 pub fn options<'a>(alloc: Global, words: &'a [&'a str]) -> Result<Options<'a>, Error>
     // What is given is what the words ask for, and what they ask for is given.

@@ -198,7 +198,7 @@ fn twice(alloc: Global, plan: &[u8], line: u64, word: &str) -> Result<String, Al
 }
 
 /// Returns the message on a line of a plan that is refused.
-pub fn told_of(alloc: Global, plan: &[u8], fault: &PlanFault) -> Result<String, AllocError> {
+pub fn message_of(alloc: Global, plan: &[u8], fault: &PlanFault) -> Result<String, AllocError> {
     let line = fault.line;
     match &fault.why {
         Why::NoName {

@@ -20,7 +20,7 @@ const VERSION: &str = "0.1.0";
 pub enum Command<'a> {
     /// Compares what follows each step with what it did.
     Check,
-    /// Tells why steps did nothing, and what is stuck at the end.
+    /// Explains why steps did nothing, and reports what is stuck at the end.
     Why,
     /// Shows the state of each thread.
     State(Wanted),
@@ -87,8 +87,8 @@ impl<'a> Request<'a> {
 /// What holds for all commands, an example of each, and the exit statuses of `Outcome`.
 pub const HELP: &str = "\
 A command that reads steps or users reads a script or a plan: a file NAME.plan, or any with --plan.
-The numbers of lines are those of the file that is given. A fault is told as FILE:LINE: .., and `-`
-is the standard input. `mcslab COMMAND --help` has the options of a command.
+Line numbers are those of the given file. A fault is reported as FILE:LINE: .., and `-` is the
+standard input. `mcslab COMMAND --help` has the options of a command.
 
 Examples:
   mcslab init first                               two plans to begin with, first.plan and first-users.plan
@@ -119,7 +119,7 @@ Exit status:
 
 /// Where it is said what may be expected of a step.
 const EXPECTED: &str = "\
-Lines behind a step say what is wanted of it: `mcslab forms questions`. The exit status is 1 if
+Lines after a step say what is wanted of it: `mcslab forms questions`. The exit status is 1 if
 something that is wanted does not hold; `mcslab --help` has the others.";
 
 /// The file of a script or a plan.
@@ -162,7 +162,7 @@ fn at<'a>(alloc: Global) -> Arg<'a> {
 fn stuck<'a>(alloc: Global) -> Arg<'a> {
     Arg::new(alloc, "stuck")
         .long("stuck")
-        .help("Tells only which threads are stuck, and on whom; status 1 where some are")
+        .help("Reports only which threads are stuck, and on whom; status 1 if some are")
         .action(ArgAction::SetTrue)
 }
 
@@ -204,17 +204,19 @@ fn check<'a>(alloc: Global) -> Result<Words<'a>, Error> {
     with(Ok(words), file(alloc))
 }
 
-/// The command that says why steps did nothing.
+/// The command that explains why steps did nothing.
 fn why<'a>(alloc: Global) -> Result<Words<'a>, Error> {
     let words = Words::new(alloc, "why").about(
-        "Tells why a step was turned away or refused, and at the end which threads are stuck",
+        "Explains why a step was skipped or refused, and at the end which threads are stuck",
     );
     with(Ok(words), file(alloc))
 }
 
 /// The command that shows the state of each thread.
 fn state<'a>(alloc: Global) -> Result<Words<'a>, Error> {
-    let words = Words::new(alloc, "state").about("Shows who stands where");
+    let words = Words::new(alloc, "state").about(
+        "Shows the state after a line: threads, queues, contexts",
+    );
     let words = with(Ok(words), at(alloc));
     let words = with(words, stuck(alloc));
     let words = with(words, json(alloc));

@@ -21,7 +21,7 @@ const SHELLS: &[&str] = &["bash", "zsh", "fish"];
 /// Returns the argument for the shell.
 fn shell_arg<'a>(alloc: Global) -> Arg<'a> {
     Arg::new(alloc, "SHELL")
-        .help("For which shell")
+        .help("The shell")
         .required(true)
         .value_parser(SHELLS)
 }

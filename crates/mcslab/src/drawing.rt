@@ -20,8 +20,8 @@ pub struct Drawn<'a> {
 }
 
 /// What the file says of a script that came of it: for each line of the script the line of the file
-/// of which it came, and for each step how the file tells it. Both are empty where the script is
-/// the file.
+/// of which it came, and for each step its text in the file. Both are empty where the script is the
+/// file.
 #[derive(Clone, Copy)]
 pub struct Said<'a> {
     pub numbers: &'a [u64],
@@ -64,7 +64,7 @@ fn format<'a>(alloc: Global) -> Arg<'a> {
     Arg::new(alloc, "format")
         .long("format")
         .value_name("FORMAT")
-        .help("As what [default: svg]")
+        .help("The format [default: svg]")
         .value_parser(FORMATS)
 }
 

@@ -41,8 +41,8 @@ Lines that begin with `#! ` ask of all orders (mcslab explore), in scripts and i
   #! live t1                        from each state some order answers an entry of t1, or all were:
                                     asked without `idle`, too
   #! live t1 2                      the same of its second entry
-  #! answer t1 2 got 9 *            each run that ends has answered its second entry, and all answers
-                                    are so
+  #! answer t1 2 got 9 *            each run that ends has answered its second entry, and all
+                                    answers are so
   #! answer? t1 2 got 9 *           all answers are so, if it has some
   #! some t2 1 heard 3              some order gives this answer
   #! never = refused *              no line of a trace is so, of an answer or of a record
@@ -50,12 +50,12 @@ Lines that begin with `#! ` ask of all orders (mcslab explore), in scripts and i
   #! never t2 in 1..2 and t3 in 1..2    never have both been answered entry 1 and not yet given 2;
                                     answered 2: 1..=2
   #! before t1 2 t2 3               the second entry of t1 is given before the third of t2
-  #! again t1 2                     behind its last entry t1 goes on with its second
+  #! again t1 2                     after its last entry t1 goes on with its second
   #! schedule equal                 a core picks any thread of the greatest priority; any: any that
                                     may enter; serial, the default: as mcssim run does
   #! resumed goes on                an entry that was answered is not given again
-In a pattern `*` stands for a word and `**` for the rest. A name of a line `#@`, or of the plan, stands
-for its object.
+In a pattern `*` stands for a word and `**` for the rest. A name of a line `#@`, or of the plan,
+stands for its object.
 ";
 
 /// What is read, and where more is said.
@@ -128,7 +128,7 @@ fn json<'a>(alloc: Global) -> Arg<'a> {
 fn exact<'a>(alloc: Global) -> Arg<'a> {
     Arg::new(alloc, "exact")
         .long("exact")
-        .help("Tells states apart by the numbers of messages and of objects, too")
+        .help("Distinguishes states by the numbers of messages and of objects, too")
         .action(ArgAction::SetTrue)
 }
 

@@ -9,7 +9,7 @@ use std::io::{self, ErrorKind, Read};
 /// The system's number of the error that a file is a folder.
 const IS_A_FOLDER: i32 = 21;
 
-/// How many bytes are kept of what was read, to tell of a line that is refused.
+/// How many bytes are kept of what was read, for the message on a line that is refused.
 const KEPT: usize = 65_536;
 
 /// A reader, and the first bytes of what it gave.
@@ -35,7 +35,7 @@ impl<R> Kept<R> {
     }
 }
 
-/// Keeps bytes, as far as there is room. What is not kept is only missing in what is told.
+/// Keeps bytes, as far as there is room. What is not kept is only missing in messages.
 fn keep(kept: &mut Vec<u8>, bytes: &[u8]) {
     let room = KEPT.saturating_sub(kept.len()).min(bytes.len());
     let _ = kept.extend_from_slice(&bytes[..room]);

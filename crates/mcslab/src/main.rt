@@ -61,7 +61,7 @@ fn ended(outcome: Outcome) -> ExitCode {
     ExitCode::from(outcome.status())
 }
 
-/// Tells what `clap` returns in place of a command.
+/// Prints what `clap` returns in place of a command.
 fn tell_answer(rt: &HostRuntime, answer: &Error) -> ExitCode {
     let _ = answer.print(rt);
     match answer.kind() {
@@ -156,8 +156,8 @@ fn do_file(rt: &HostRuntime, request: &Request<'_>) -> ExitCode {
     }
 }
 
-/// Returns whether a picture shows no line, since its first is behind its last, which is told.
-fn tells_no_line(rt: &HostRuntime, drawn: Drawn<'_>) -> bool {
+/// Reports that a picture shows no line, where its first is after its last. Returns whether it is.
+fn shows_no_line(rt: &HostRuntime, drawn: Drawn<'_>) -> bool {
     match (drawn.from, drawn.to) {
         (Some(from), Some(to)) if from > to => {
             let _ = eprintln!(rt; "mcslab: --from {from} is behind --to {to}");
@@ -197,7 +197,7 @@ fn carry_out(rt: &HostRuntime, request: &Request<'_>) -> ExitCode {
             }
         }
         Command::Draw(drawn) => {
-            if tells_no_line(rt, drawn) {
+            if shows_no_line(rt, drawn) {
                 return ended(Outcome::Call);
             }
         }

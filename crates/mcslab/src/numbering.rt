@@ -1,5 +1,4 @@
-//! The numbers of lines in what is told of a plan: those of the plan, not of the script that came
-//! of it.
+//! The numbers of lines in reports on a plan: those of the plan, not of the script that came of it.
 /// How a command writes the number of a line: at the beginning of a line of its own, where nothing
 /// that a script says can stand.
 #[derive(Clone, Copy)]
@@ -12,11 +11,11 @@ pub enum Form {
     Json,
     /// None, as `mcslab state`.
     State,
-    /// None: `mcslab explore` tells its questions by lines in which the plan has them.
+    /// None: `mcslab explore` reads its questions in the plan's lines.
     Orders,
 }
 
-/// The number of a line in a line of a report, and what stands before and behind it.
+/// The number of a line in a line of a report, and what is before and after it.
 #[derive(Clone, Copy)]
 pub struct Found<'a> {
     pub before: &'a [u8],
@@ -88,7 +87,7 @@ fn place_of(form: Form, line: &[u8]) -> Option<usize> {
     }
 }
 
-/// Returns the number of a line that a line of a report tells, if it tells one.
+/// Returns the number of a line that a line of a report has, if it has one.
 pub fn found_in(form: Form, line: &[u8]) -> Option<Found<'_>> {
     found_at(line, place_of(form, line)?)
 }

@@ -1,6 +1,6 @@
 //! What is asked of a plan: it is compiled in memory, and the command is done with its script. The
 //! report has the plan's lines and names.
-use crate::advice::told_of;
+use crate::advice::message_of;
 use crate::command_line::{Command, Request};
 use crate::drawing::{Drawn, Said, draw};
 use crate::exploring::{Sought, explore};
@@ -309,8 +309,8 @@ impl<W: Write> Write for Orders<'_, W> {
 fn bail_line(alloc: Global, plan: &[u8], fault: &CompileFault) -> Result<String, AllocError> {
     match (line_of_plan(fault), fault) {
         (Some(line), CompileFault::Plan(fault)) => {
-            let told = told_of(alloc, plan, fault)?;
-            format!(in alloc; "Bail out! line {line}: {told}\n")
+            let message = message_of(alloc, plan, fault)?;
+            format!(in alloc; "Bail out! line {line}: {message}\n")
         }
         _ => format!(in alloc; "Bail out! {fault}\n"),
     }

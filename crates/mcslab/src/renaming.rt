@@ -85,9 +85,9 @@ struct Trace<W> {
 impl<W: Write + Drop> Trace<W> {
     /// Writes the lines that are held.
     fn put_held(&mut self) -> Result<(), LabFault> {
-        let told = tell_names(self.alloc, &self.names, &self.held)?;
+        let text = tell_names(self.alloc, &self.names, &self.held)?;
         self.held.clear();
-        self.to.write_all(&told)?;
+        self.to.write_all(&text)?;
         Ok(())
     }
 }

@@ -50,7 +50,7 @@ struct Standing<'a> {
     behind: &'a str,
 }
 
-/// Returns the parts of a line that tells how an order leaves a user, if it is one.
+/// Returns the parts of a line that says how an order leaves a user, if it is one.
 fn standing_in(line: &str) -> Option<Standing<'_>> {
     let (head, rest) = line.split_once(" entry ")?;
     let (number, rest) = rest.split_once(" (")?;
@@ -71,7 +71,7 @@ struct Row<'a> {
     behind: &'a str,
 }
 
-/// Returns the parts of a line that tells how an entry was answered, if it is one.
+/// Returns the parts of a line that says how an entry was answered, if it is one.
 fn row_in(line: &str) -> Option<Row<'_>> {
     let (head, rest) = line.split_once(": ")?;
     let (entry, behind) = rest.split_once(" ->")?;
@@ -120,7 +120,7 @@ impl<'a> Retold<'a> {
     }
 
     /// Adds the report on a step of the script, which begins with the step.
-    fn add_told(
+    fn add_report(
         &self,
         alloc: Global,
         to: &mut Vec<u8>,
@@ -129,9 +129,9 @@ impl<'a> Retold<'a> {
     ) -> Result<(), AllocError> {
         let step = line_at(&self.steps, line);
         match said.strip_prefix(step) {
-            Some(told) => {
+            Some(report) => {
                 add_step(alloc, to, self.script, step)?;
-                add_text(alloc, to, self.script, told)
+                add_text(alloc, to, self.script, report)
             }
             None => add_text(alloc, to, self.script, said),
         }
@@ -152,7 +152,7 @@ impl<'a> Retold<'a> {
         to.extend_from_slice(b": ")?;
         match form {
             Form::Tap => self.add_wanted(alloc, to, line, said),
-            Form::Lines => self.add_told(alloc, to, line, said),
+            Form::Lines => self.add_report(alloc, to, line, said),
             Form::Json | Form::Orders | Form::State => add_text(alloc, to, self.script, said),
         }
     }
@@ -244,7 +244,7 @@ impl<'a> Retold<'a> {
         }
     }
 
-    /// Adds a line of a report, and returns the number that it tells, or else the last one.
+    /// Adds a line of a report, and returns the number of a line that it has, or else the last one.
     fn add_line(
         &self,
         alloc: Global,

@@ -42,11 +42,11 @@ Steps, or lines and programs of users:
   user NAME: ENTRY
   program NAME {               statements, and }
   ? ANSWER                     what the step before has to answer: done, got .., heard .., ..
-  ? QUESTION                   what has to hold behind it: mcslab forms questions
-  ? away [REASON]              it has to be turned away
+  ? QUESTION                   what has to hold after it: mcslab forms questions
+  ? away [REASON]              it has to be skipped
   #! QUESTION                  what has to hold in all orders, for mcslab explore
 
-Numbers are decimal, or hexadecimal behind 0x. A comment begins with # behind white space.
+Numbers are decimal, or hexadecimal after 0x. A comment begins with # after white space.
 
 Entries; a SLOT is a name, or an index and a depth; the other operands in capitals are names or
 addresses, and numbers for LABEL, WORD, PRIORITY and BADGE:
@@ -59,15 +59,15 @@ Users:
 
 Comments, which mcssim skips. Of these `mcslab check` reads `#?`, `explore` and `walk` read `#!`, and
 each command that reads a script reads `#@`:
-  #? question              what has to hold behind the step: mcslab forms questions
+  #? question              what has to hold after the step: mcslab forms questions
   #! question              what has to hold in all orders
   #! thread: statement     a line of a program of a user
   #@ object name           a name for an object: letters, digits, `-`, `_` and `.`
 ";
 
-/// The questions to the state behind a step.
+/// The questions to the state after a step.
 const ASKED_OF_A_STEP: &str = "\
-Lines behind a step say what is wanted of it (mcslab check):
+Lines after a step say what is wanted of it (mcslab check):
   = got 9 7 5          its answer
   + owes r1 t1 s1      a record among its own, in their order
   #? QUESTION          what stands behind it:
@@ -85,7 +85,7 @@ A plan says the same by `? ANSWER` and `? QUESTION`, with its names: `? fs waits
 /// Returns the argument that says whose.
 fn what<'a>(alloc: Global) -> Arg<'a> {
     Arg::new(alloc, "WHAT")
-        .help("Whose forms")
+        .help("The text whose forms are shown")
         .required(true)
         .value_parser(NAMES)
 }

@@ -150,8 +150,8 @@ fn add_head(
     core: &[u8],
     thread: &[u8],
 ) -> Result<(), AllocError> {
-    match told_of(script, thread) {
-        Some(told) => to.extend_from_slice(told.name.as_bytes())?,
+    match named_word(script, thread) {
+        Some(named) => to.extend_from_slice(named.name.as_bytes())?,
         None => to.extend_from_slice(thread)?,
     }
     if script.cores > 1 {
@@ -185,14 +185,14 @@ fn step_text(alloc: Global, script: &Script, line: &[u8]) -> Result<String, Allo
     if matches!(line, [b'0'..=b'9', ..]) {
         add_step(alloc, &mut text, script, line)?;
     }
-    let mut told = String::new(alloc);
+    let mut step = String::new(alloc);
     if let Ok(said) = str::from_utf8(&text) {
-        told.push_str(said)?;
+        step.push_str(said)?;
     }
-    Ok(told)
+    Ok(step)
 }
 
-/// Returns of each line of a script how the plan tells its step; an empty text where it is none.
+/// Returns for each line of a script the plan's text of its step; an empty one where it is none.
 pub fn step_texts(alloc: Global, script: &Script, text: &[u8]) -> Result<Vec<String>, AllocError> {
     let mut texts = Vec::new(alloc);
     for line in text.split(|byte| *byte == b'\n') {
@@ -201,9 +201,9 @@ pub fn step_texts(alloc: Global, script: &Script, text: &[u8]) -> Result<Vec<Str
     Ok(texts)
 }
 
-/// What a word of a report tells: an object by its name, and the end of the word, as `.recv`.
+/// What a word of a report names: the name of an object, and the end of the word, as `.recv`.
 #[derive(Clone, Copy)]
-struct Told<'a> {
+struct NamedWord<'a> {
     name: &'a str,
     end: &'a [u8],
 }
@@ -215,17 +215,17 @@ fn object_len(word: &[u8]) -> usize {
         .unwrap_or(word.len())
 }
 
-/// Returns what a word tells; None where it tells no object that has a name.
-fn told_of<'a>(script: &'a Script, word: &'a [u8]) -> Option<Told<'a>> {
+/// Returns what a word names; None where it names no object that has a name.
+fn named_word<'a>(script: &'a Script, word: &'a [u8]) -> Option<NamedWord<'a>> {
     let (object, end) = word.split_at_checked(object_len(word))?;
     let name = script.laid.plan.names.name_of(object_of(object)?);
     if name.as_bytes().is_empty() {
         return None;
     }
-    Some(Told { name, end })
+    Some(NamedWord { name, end })
 }
 
-/// Returns whether a byte may be one of a word that tells an object or a number.
+/// Returns whether a byte may be one of a word that names an object, or of a number.
 fn is_of_word(byte: u8) -> bool {
     byte.is_ascii_alphanumeric() || byte == b'.' || byte == b'_' || byte == b'-'
 }
@@ -256,13 +256,13 @@ fn add_word<'a>(
     word: &[u8],
     text: &'a [u8],
 ) -> Result<&'a [u8], AllocError> {
-    let Some(told) = told_of(script, word) else {
+    let Some(named) = named_word(script, word) else {
         add_plain(alloc, to, word)?;
         return Ok(text);
     };
-    to.extend_from_slice(told.name.as_bytes())?;
-    to.extend_from_slice(told.end)?;
-    Ok(behind_name(text, told.name))
+    to.extend_from_slice(named.name.as_bytes())?;
+    to.extend_from_slice(named.end)?;
+    Ok(behind_name(text, named.name))
 }
 
 /// Adds a text of a report, with the plan's names for objects.

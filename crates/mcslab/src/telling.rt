@@ -1,5 +1,5 @@
-//! How a fault is told: by the file that was given and its line, as compilers do.
-use crate::advice::{plan_words, told_of};
+//! Messages on faults, by the file that was given and its line, as compilers write them.
+use crate::advice::{message_of, plan_words};
 use crate::command_line::Command;
 use crate::hints::hint_of;
 use crate::path::Path;
@@ -12,8 +12,7 @@ use std::alloc::Global;
 use std::process::ExitCode;
 use std::{fmt, io, str};
 
-/// The place of what is told: the file, None for the standard input, and the line, where there is
-/// one.
+/// The place of a fault: the file, None for the standard input, and the line, where there is one.
 #[derive(Clone, Copy)]
 pub struct Place<'a> {
     pub file: Option<&'a str>,
@@ -45,7 +44,7 @@ fn put_place<W: fmt::Write>(
 /// What is said of a line of a question or of a name that has none of their forms.
 const NO_FORM: &str = "no question and no name has this form";
 
-/// What is said of a line, behind its place.
+/// What is said of a line, after its place.
 #[derive(Clone, Copy)]
 struct OfLine<'a>(&'a ExploreFault);
 
@@ -180,7 +179,7 @@ fn tell_odd(rt: &HostRuntime, place: Place<'_>, what: OfLine<'_>, line: &[u8], o
     show_mark(rt, line, odd.place);
 }
 
-/// Returns the place of the flaw of which a fault tells, in a line without its newline.
+/// Returns the place of the flaw that a fault reports, in a line without its newline.
 fn flaw_place(fault: &ExploreFault, line: &[u8]) -> Option<usize> {
     match fault {
         ExploreFault::Lab(LabFault::Flawed { flaw, .. }) => match flaw {
@@ -191,7 +190,7 @@ fn flaw_place(fault: &ExploreFault, line: &[u8]) -> Option<usize> {
     }
 }
 
-/// Returns whether a line of a script fits no form, and has no flaw of which its fault tells.
+/// Returns whether a line of a script fits no form, and has no flaw that its fault reports.
 fn has_no_form(fault: &ExploreFault) -> bool {
     match fault {
         ExploreFault::Lab(LabFault::Script { why, .. }) => *why == LineFault::Form,
@@ -260,9 +259,9 @@ pub fn line_of_plan(fault: &CompileFault) -> Option<u64> {
 
 /// Reports that a line of a plan is refused, with what may help where there is memory for it.
 fn tell_plan_line(rt: &HostRuntime, place: Place<'_>, plan: &[u8], fault: &PlanFault) {
-    match told_of(rt.alloc(), plan, fault) {
-        Ok(told) => {
-            let _ = eprintln!(rt; "{place}{told}");
+    match message_of(rt.alloc(), plan, fault) {
+        Ok(message) => {
+            let _ = eprintln!(rt; "{place}{message}");
         }
         Err(_) => {
             let why = &fault.why;

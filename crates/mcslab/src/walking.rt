@@ -33,7 +33,7 @@ pub struct Chance {
 const ENDS: &str = "\
 Each turn is drawn among those that are possible; the same seed gives the same run. The script that is written
 shows this one run: it says nothing of other orders. Its last line says whether a turn is possible at its end.
-`mcslab state --stuck` tells who is stuck there, `mcslab draw` draws it, and `mcslab explore` goes through all orders.
+`mcslab state --stuck` reports who is stuck there, `mcslab draw` draws it, and `mcslab explore` goes through all orders.
 
 With --runs N it draws the runs of N seeds, one after the other, and reports how they end, what each entry was
 answered, and which questions failed, each with the seed of the first run that shows it: `--seed` with that seed,

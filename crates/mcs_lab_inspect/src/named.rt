@@ -1,0 +1,72 @@
+//! The names of objects as a member of an object of JSON: `"names":{"t1":"client"}`.
+use crate::page::Page;
+use crate::spaces::object;
+use mcs_lab_check::Names;
+use mcs_text::Token;
+use mcs_types::{Kind, ObjId};
+
+/// The kinds of objects, by their words.
+pub const KINDS: &[Kind] = &[
+    Kind::CNode,
+    Kind::Context,
+    Kind::Endpoint,
+    Kind::Notification,
+    Kind::Reply,
+    Kind::Thread,
+];
+
+/// The member as far as it is put: there is none where no object has a name.
+#[derive(Drop)]
+pub struct NamesMember<'a> {
+    names: &'a Names,
+    is_first: bool,
+    is_begun: bool,
+}
+
+impl<'a> NamesMember<'a> {
+    /// Returns a member that is not begun: the first of its object, or one behind others.
+    pub fn new(names: &'a Names, is_first: bool) -> NamesMember<'a> {
+        NamesMember {
+            names,
+            is_first,
+            is_begun: false,
+        }
+    }
+
+    /// Puts the beginning of the member, or what is between two names.
+    fn put_between(&mut self, page: &mut Page) {
+        if self.is_begun {
+            return page.put(b",");
+        }
+        page.between(self.is_first);
+        page.put(b"\"names\":{");
+        self.is_begun = true;
+    }
+
+    /// Puts the name of an object under its id, where it has one.
+    pub fn put(&mut self, page: &mut Page, object: ObjId) {
+        let names = self.names;
+        let Some(name) = names.of(object) else {
+            return;
+        };
+        self.put_between(page);
+        page.quoted_word(&Token::Name(object));
+        page.put(b":");
+        page.quoted(name);
+    }
+
+    /// Puts the names of the first objects of a kind, so many.
+    pub fn put_kind(&mut self, page: &mut Page, kind: Kind, count: u32) {
+        for serial in 1..=count {
+            self.put(page, object(kind, serial));
+        }
+    }
+
+    /// Puts the end of the member where it is begun. Returns whether there is a member.
+    pub fn end(&self, page: &mut Page) -> bool {
+        if self.is_begun {
+            page.put(b"}");
+        }
+        self.is_begun
+    }
+}
