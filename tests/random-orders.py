@@ -3,6 +3,8 @@
 
     python3 tests/random-orders.py MCSLAB [COUNT [SEED]]   so many scripts (2,000), from a seed (1)
     python3 tests/random-orders.py --programs MCSLAB [COUNT [SEED]]   the same; users are programs
+    python3 tests/random-orders.py --rules [--programs] MCSLAB ..     each script has a schedule, and in
+                                             every second one an answered entry is not given again
     python3 tests/random-orders.py [--programs] --data [COUNT [SEED]]   prints so many scripts (50),
                                              from a seed (2), as data of mcs_test_examples
 
@@ -145,6 +147,12 @@ def programs_of(r):
     return "\n".join(lines + asked) + "\n"
 
 
+def rules_of(r):
+    """A schedule, and perhaps that what was answered is not given again."""
+    schedule = f"#! schedule {r.choice(['serial', 'equal', 'any'])}\n"
+    return schedule + r.choice(["", "#! resumed goes on\n"])
+
+
 def told(program, script, *options):
     done = subprocess.run([program, "explore", "--json", *options], input=script.encode(), capture_output=True)
     if done.returncode not in (0, 1):
@@ -168,7 +176,8 @@ def print_data(made, words):
 
 def main():
     made = programs_of if "--programs" in sys.argv else users_of
-    words = [word for word in sys.argv[1:] if word != "--programs"]
+    rules = rules_of if "--rules" in sys.argv else lambda r: ""
+    words = [word for word in sys.argv[1:] if word not in ("--programs", "--rules")]
     if words[0] == "--data":
         return print_data(made, words[1:])
     program = words[0]
@@ -176,7 +185,7 @@ def main():
     r = random.Random(int(words[2]) if len(words) > 2 else 1)
     used = set()
     for number in range(1, count + 1):
-        script = BOOT + made(r)
+        script = BOOT + made(r) + rules(r)
         entry = [line.split()[2:] for line in script.splitlines() if line[:4] in ("user", "#! t")]
         used |= {" ".join(words[:2]) if words[0] == "make" else words[0]
                  for words in entry if words[0] in KINDS}

@@ -2,7 +2,7 @@
 //! objects that were made after the boot have names of their own. That it does is tested.
 use crate::names::Names;
 use mcs_explore_rows::{Row, kind_number, send_number};
-use mcs_explore_walk::Walk;
+use mcs_explore_walk::{Walk, has};
 use mcs_kernel::Kernel;
 use mcs_queues::Lines;
 use mcs_turns::{Pick, Position};
