@@ -6,6 +6,7 @@ ghost use Rattle.mcs_explore_report.specs.Ends.{AreAllEnds, AreRunEnds, HasKind,
 ghost use Rattle.mcs_explore_report.specs.Outcomes.{AreFirstPlaces, IsHeld, IsMissed, are_done, are_live, fails, holds, stuck_of};
 ghost use Rattle.mcs_explore_report.specs.Verdicts.{IsVerdict, failed_at};
 
+use crate::again::given_again;
 use crate::answers::Told;
 use crate::endings::{Ending, are_idle, ending_of};
 use crate::ends::{End, Ends};
@@ -13,6 +14,7 @@ use crate::frontier::{deep_ends, is_given};
 use crate::judging::Sighting;
 use crate::outcomes::{Outcome, Unseen, missed};
 use crate::saying::text_of;
+use crate::scripts::turns_of;
 use crate::slots::{Origin, all_origins};
 use crate::stuck_users::{StuckUsers, first_stuck, stuck_of, stuck_users};
 use crate::verdicts::{Grounds, Verdict, verdict_on};
@@ -234,6 +236,13 @@ impl<'a, P: Progress> Findings<'a, P> {
         self.stuck
             .iter()
             .any(|stuck| stuck.users.iter().any(|one| *one == user))
+    }
+
+    /// Returns the first entry that is given again after it was answered on the way to what is seen,
+    /// if one is. OutOfMemory where memory was refused.
+    pub fn given_again(&self, seen: Sighting) -> Result<Option<Event>, LabFault> {
+        let turns = turns_of(self.orders, seen)?;
+        given_again(self.alloc, self.script, &turns)
     }
 
     /// Returns by how many turns something is seen.

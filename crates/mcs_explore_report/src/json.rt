@@ -110,6 +110,22 @@ fn put_lines(page: &mut Page, script: &[u8]) {
     page.put(b"]");
 }
 
+/// Puts the entry that is given again after it was answered on the way to what is seen as a member,
+/// if one is.
+fn put_again<P: Progress>(
+    page: &mut Page,
+    findings: &Findings<'_, P>,
+    seen: Sighting,
+) -> Result<(), LabFault> {
+    if let Some(event) = findings.given_again(seen)? {
+        page.key("again");
+        put_thread(page, &findings.script.names, event.thread);
+        page.count_member("entry", event.number);
+        page.put(b"}");
+    }
+    Ok(())
+}
+
 /// Puts the script of what is seen and its steps as the last members of an object.
 fn put_steps<P: Progress>(
     page: &mut Page,
@@ -118,6 +134,7 @@ fn put_steps<P: Progress>(
     seen: Sighting,
 ) -> Result<(), LabFault> {
     let script = report.script_of(b"", seen)?;
+    put_again(page, &report.findings, seen)?;
     put_script(page, report.findings.alloc, name);
     page.key("steps");
     put_lines(page, &script);
@@ -259,7 +276,11 @@ fn put_entries<P: Progress>(page: &mut Page, report: &Report<'_, P>) {
 }
 
 /// Puts a question.
-fn put_question<P: Progress>(page: &mut Page, findings: &Findings<'_, P>, judged: &Judged<'_>) {
+fn put_question<P: Progress>(
+    page: &mut Page,
+    findings: &Findings<'_, P>,
+    judged: &Judged<'_>,
+) -> Result<(), LabFault> {
     page.put(b"{\"line\":");
     page.number(judged.line.line);
     page.text_member("text", judged.line.text.as_slice());
@@ -269,20 +290,23 @@ fn put_question<P: Progress>(page: &mut Page, findings: &Findings<'_, P>, judged
     }
     if let Some(seen) = judged.seen {
         page.count_member("steps", findings.steps(seen));
+        put_again(page, findings, seen)?;
         put_script(page, findings.alloc, ScriptName::Question(judged.line.line));
     }
     page.put(b"}");
+    Ok(())
 }
 
 /// Puts all questions as a member.
-fn put_questions<P: Progress>(page: &mut Page, report: &Report<'_, P>) {
+fn put_questions<P: Progress>(page: &mut Page, report: &Report<'_, P>) -> Result<(), LabFault> {
     page.key("questions");
     page.put(b"[");
     for (index, judged) in report.judged.iter().enumerate() {
         page.between(index == 0);
-        put_question(page, &report.findings, judged);
+        put_question(page, &report.findings, judged)?;
     }
     page.put(b"]");
+    Ok(())
 }
 
 /// Puts how much was found as the first members.
@@ -326,7 +350,7 @@ pub fn write_json<P: Progress, W: Write>(
     put_ends(to, &mut page, report)?;
     put_all_stuck(&mut page, report)?;
     put_entries(&mut page, report);
-    put_questions(&mut page, report);
+    put_questions(&mut page, report)?;
     put_names(&mut page, &report.findings);
     put_verdicts(&mut page, report)?;
     page.write(to)

@@ -9,6 +9,7 @@
 //! ```
 #![tactic(auto)]
 
+mod again;
 mod answers;
 mod bounds;
 mod endings;

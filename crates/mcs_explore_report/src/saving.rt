@@ -99,7 +99,7 @@ fn save_ends<P: Progress, S: Saves>(report: &Report<'_, P>, saves: &mut S) -> Re
             break;
         };
         let mut comment = new_comment(findings.alloc)?;
-        put_end(&mut comment, findings, "# ", &kind);
+        put_end(&mut comment, findings, "# ", &kind)?;
         let name = ScriptName::End(kind.number);
         let end = kind.end;
         save(report, saves, name, &comment, seen_at(end.place))?;
@@ -116,7 +116,7 @@ fn save_stuck<P: Progress, S: Saves>(
     for (index, stuck) in findings.stuck.iter().enumerate() {
         let number = index.saturating_add(1);
         let mut comment = new_comment(findings.alloc)?;
-        put_stuck(&mut comment, findings, "# ", number, stuck);
+        put_stuck(&mut comment, findings, "# ", number, stuck)?;
         let name = ScriptName::Stuck(number);
         save(report, saves, name, &comment, seen_at(stuck.place))?;
     }
@@ -132,7 +132,7 @@ fn save_questions<P: Progress, S: Saves>(
     for judged in report.judged.iter() {
         if let Some(seen) = judged.seen {
             let mut comment = new_comment(findings.alloc)?;
-            put_question(&mut comment, findings, "# ", judged);
+            put_question(&mut comment, findings, "# ", judged)?;
             let name = ScriptName::Question(judged.line.line);
             save(report, saves, name, &comment, seen)?;
         }

@@ -3,6 +3,7 @@ use crate::endings::{Ending, is_idle};
 use crate::ends::Standing;
 use crate::findings::{Answered, AnsweredEntry, Findings, Judged, KindOfEnd, entry_text};
 use crate::heading::put_head;
+use crate::judging::Sighting;
 use crate::outcomes::Outcome;
 use crate::report::{Explored, Report};
 use crate::slots::Origin;
@@ -79,13 +80,29 @@ pub fn put_standing(page: &mut Page, script: &UserScript, standing: &Standing, o
     page.put(b"\n");
 }
 
-/// Puts a kind of end, each line behind a mark.
+/// Puts the entry that is given again after it was answered on the way to what is seen, if one is.
+fn put_again<P: Progress>(
+    page: &mut Page,
+    findings: &Findings<'_, P>,
+    seen: Sighting,
+) -> Result<(), LabFault> {
+    if let Some(event) = findings.given_again(seen)? {
+        page.put(b"; ");
+        page.object(&findings.script.names, event.thread);
+        page.put(b" gives entry ");
+        page.count(event.number);
+        page.put(b" again after its answer");
+    }
+    Ok(())
+}
+
+/// Puts a kind of end, each line behind a mark. OutOfMemory where memory was refused.
 pub fn put_end<P: Progress>(
     page: &mut Page,
     findings: &Findings<'_, P>,
     mark: &str,
     kind: &KindOfEnd<'_>,
-) {
+) -> Result<(), LabFault> {
     let end = kind.end;
     page.put(mark.as_bytes());
     page.put(b"end ");
@@ -96,22 +113,24 @@ pub fn put_end<P: Progress>(
     page.counted(end.count, "time");
     page.put(b", first after ");
     page.counted(findings.steps(seen_at(end.place)), "step");
+    put_again(page, findings, seen_at(end.place))?;
     page.put(b"\n");
     for (place, standing) in end.standing.iter().enumerate() {
         page.put(mark.as_bytes());
         page.put(b"  ");
         put_standing(page, findings.script, standing, kind.origin(place));
     }
+    Ok(())
 }
 
-/// Puts users that are stuck from one state on, behind a mark.
+/// Puts users that are stuck from one state on, behind a mark. OutOfMemory where memory was refused.
 pub fn put_stuck<P: Progress>(
     page: &mut Page,
     findings: &Findings<'_, P>,
     mark: &str,
     number: usize,
     stuck: &StuckUsers,
-) {
+) -> Result<(), LabFault> {
     page.put(mark.as_bytes());
     page.put(b"stuck ");
     page.count(number);
@@ -125,7 +144,9 @@ pub fn put_stuck<P: Progress>(
     }
     page.put(b", first after ");
     page.counted(findings.steps(seen_at(stuck.place)), "step");
+    put_again(page, findings, seen_at(stuck.place))?;
     page.put(b"\n");
+    Ok(())
 }
 
 /// Puts what came of a question.
@@ -155,13 +176,13 @@ pub fn put_asked(page: &mut Page, line: &AskedLine) {
     page.escaped(line.text.as_slice());
 }
 
-/// Puts a question and what came of it, behind a mark.
+/// Puts a question and what came of it, behind a mark. OutOfMemory where memory was refused.
 pub fn put_question<P: Progress>(
     page: &mut Page,
     findings: &Findings<'_, P>,
     mark: &str,
     judged: &Judged<'_>,
-) {
+) -> Result<(), LabFault> {
     page.put(mark.as_bytes());
     put_asked(page, judged.line);
     page.put(b": ");
@@ -169,8 +190,10 @@ pub fn put_question<P: Progress>(
     if let Some(seen) = judged.seen {
         page.put(b", seen after ");
         page.counted(findings.steps(seen), "step");
+        put_again(page, findings, seen)?;
     }
     page.put(b"\n");
+    Ok(())
 }
 
 /// Puts an answer of an entry as a comment.
@@ -297,32 +320,43 @@ pub fn put_verdict<P: Progress>(page: &mut Page, report: &Report<'_, P>) {
 }
 
 /// Puts all kinds of ends that are all done, or all others.
-fn put_ends<P: Progress>(page: &mut Page, findings: &Findings<'_, P>, wanted: bool) {
+fn put_ends<P: Progress>(
+    page: &mut Page,
+    findings: &Findings<'_, P>,
+    wanted: bool,
+) -> Result<(), LabFault> {
     for index in 0..findings.ends.kinds().len() {
         let Some(kind) = findings.kind(index) else {
             break;
         };
         let is_done = findings.ending(kind.end) == Ending::AllDone;
         if is_done == wanted {
-            put_end(page, findings, "", &kind);
+            put_end(page, findings, "", &kind)?;
         }
     }
+    Ok(())
 }
 
 /// Puts all users that are stuck.
-fn put_all_stuck<P: Progress>(page: &mut Page, findings: &Findings<'_, P>) {
+fn put_all_stuck<P: Progress>(page: &mut Page, findings: &Findings<'_, P>) -> Result<(), LabFault> {
     for (index, stuck) in findings.stuck.iter().enumerate() {
-        put_stuck(page, findings, "", index.saturating_add(1), stuck);
+        put_stuck(page, findings, "", index.saturating_add(1), stuck)?;
     }
+    Ok(())
 }
 
 /// Puts all questions that hold, or all others.
-fn put_questions<P: Progress>(page: &mut Page, report: &Report<'_, P>, wanted: bool) {
+fn put_questions<P: Progress>(
+    page: &mut Page,
+    report: &Report<'_, P>,
+    wanted: bool,
+) -> Result<(), LabFault> {
     for judged in report.judged.iter() {
         if judged.outcome.holds() == wanted {
-            put_question(page, &report.findings, "", judged);
+            put_question(page, &report.findings, "", judged)?;
         }
     }
+    Ok(())
 }
 
 /// Puts all entries, in the order of users and entries.
@@ -339,13 +373,13 @@ pub fn write_text<P: Progress, W: Write>(
 ) -> Result<(), LabFault> {
     let mut page = Page::new(report.findings.alloc)?;
     put_head(&mut page, report);
-    put_ends(&mut page, &report.findings, false);
-    put_all_stuck(&mut page, &report.findings);
-    put_questions(&mut page, report, false);
+    put_ends(&mut page, &report.findings, false)?;
+    put_all_stuck(&mut page, &report.findings)?;
+    put_questions(&mut page, report, false)?;
     page.write(to)?;
-    put_ends(&mut page, &report.findings, true);
+    put_ends(&mut page, &report.findings, true)?;
     put_entries(&mut page, report);
-    put_questions(&mut page, report, true);
+    put_questions(&mut page, report, true)?;
     put_verdict(&mut page, report);
     page.put(b"\n");
     page.write(to)
