@@ -56,19 +56,29 @@ fn put_mode(page: &mut Page, script: &UserScript, is_exact: bool) {
     }
 }
 
+/// Returns a rule as a line of a script sets it.
+fn rule_text(rule: Rule) -> &'static str {
+    match rule {
+        Rule::By(Schedule::Serial) => "schedule serial",
+        Rule::By(Schedule::Equal) => "schedule equal",
+        Rule::By(Schedule::Any) => "schedule any",
+        Rule::ToldOnce => "resumed goes on",
+    }
+}
+
+/// Returns the rule that a line sets, if it sets one.
+pub fn rule_set(line: &AskedLine) -> Option<&'static str> {
+    match &line.asked {
+        Asked::Ruled { rule } => Some(rule_text(*rule)),
+        _ => None,
+    }
+}
+
 /// Puts the rules of users that the lines of a script set.
 fn put_rules(page: &mut Page, asked: &[AskedLine]) {
-    for line in asked {
-        let Asked::Ruled { rule } = &line.asked else {
-            continue;
-        };
-        let text = match rule {
-            Rule::By(Schedule::Serial) => "; schedule serial",
-            Rule::By(Schedule::Equal) => "; schedule equal",
-            Rule::By(Schedule::Any) => "; schedule any",
-            Rule::ToldOnce => "; resumed goes on",
-        };
-        page.put(text.as_bytes());
+    for rule in asked.iter().filter_map(rule_set) {
+        page.put(b"; ");
+        page.put(rule.as_bytes());
     }
 }
 

@@ -3,6 +3,7 @@ use crate::endings::is_idle;
 use crate::ends::Standing;
 use crate::findings::{AnsweredEntry, Findings, Judged, KindOfEnd, entry_text};
 use crate::frontier::count_of;
+use crate::heading::rule_set;
 use crate::judging::Sighting;
 use crate::report::Report;
 use crate::saving::ScriptName;
@@ -10,6 +11,7 @@ use crate::slots::Origin;
 use crate::stuck_users::{StuckUsers, seen_at};
 use crate::text::put_verdict;
 use crate::watching::Progress;
+use mcs_explore_script::AskedLine;
 use mcs_lab_check::{LabFault, Names};
 use mcs_lab_inspect::{KINDS, NamesMember, Page};
 use mcs_text::Token;
@@ -309,6 +311,20 @@ fn put_questions<P: Progress>(page: &mut Page, report: &Report<'_, P>) -> Result
     Ok(())
 }
 
+/// Puts the rules of users that the lines of a script set as a member, where there are some.
+fn put_rules(page: &mut Page, asked: &[AskedLine]) {
+    if !asked.iter().any(|line| rule_set(line).is_some()) {
+        return;
+    }
+    page.key("rules");
+    page.put(b"[");
+    for (index, rule) in asked.iter().filter_map(rule_set).enumerate() {
+        page.between(index == 0);
+        page.quoted(rule.as_bytes());
+    }
+    page.put(b"]");
+}
+
 /// Puts how much was found as the first members.
 fn put_counts<P: Progress>(page: &mut Page, findings: &Findings<'_, P>) {
     let orders = findings.orders;
@@ -318,6 +334,7 @@ fn put_counts<P: Progress>(page: &mut Page, findings: &Findings<'_, P>) {
     page.count_member("depth", orders.deepest());
     page.count_member("ends", count_of(findings.ends.kinds()));
     page.flag_member("whole", orders.is_whole());
+    put_rules(page, &findings.script.asked);
 }
 
 /// Puts the names of the objects of the boot as a member, where there are some.
