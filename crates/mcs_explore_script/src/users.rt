@@ -1,5 +1,6 @@
 //! The users of a script.
 ghost use Rattle.std.specs.Prelude.{◌≡◌, ◌++◌, ◌∷◌, [], IfOk, OnOk};
+ghost use Rattle.std.specs.List.{list_any};
 ghost use Rattle.mcs_users.specs.Users.{with_entry};
 ghost use Rattle.mcs_explore_script.specs.Programs.{labels_of, with_one_program, with_program_entries, with_programs};
 ghost use Rattle.mcs_explore_script.specs.UserLists.{all_changed, changed_by, ruled, ruled_by, tells_once, with_entries};
@@ -181,6 +182,13 @@ fn tells_once(asked: &Asked) -> bool
     }
 }
 
+/// Returns whether one of these lines does.
+fn any_tells_once(asked: &[AskedLine]) -> bool
+    ensures { result ≡ list_any (λ q. tells_once q.asked) asked.now }
+{
+    asked.iter().any(|line| tells_once(&line.asked))
+}
+
 /// Returns users that go by what all lines say of them. AgainTwice where a list goes on again
 /// already; OutOfMemory where memory was refused.
 pub fn ruled(alloc: Global, users: Users, asked: &[AskedLine]) -> Result<Users, ExploreFault>
@@ -188,7 +196,7 @@ pub fn ruled(alloc: Global, users: Users, asked: &[AskedLine]) -> Result<Users, 
 {
     let mut users = users;
     change_all(alloc, &mut users, asked)?;
-    if !asked.iter().any(|line| tells_once(&line.asked)) {
+    if !any_tells_once(asked) {
         return Ok(users);
     }
     match users.straightened() {
