@@ -1,10 +1,12 @@
 #!/bin/sh
-# The library for C, seL4's calls over it, and its calls from Rust: builds crates/mcs_c, compiles ports/ and runs its tests.
+# The library for C, seL4's calls over it, and its calls from Rust: builds crates/mcs_c, compiles
+# ports/ and runs its tests.
 #   sh tests/c.sh
 # Needs a C compiler (CC, or gcc, or clang); says what it skips. These are taken where they are set:
 #   LIBMCS  the archive of mcs_c, in the place of what `rt lib` builds (proved, which may take long)
 #   MCSSIM  the simulator, else crates/mcssim/out/mcssim; without it no trace is compared
-#   MCSLAB  the checker, else crates/mcslab/out/mcslab; without it scripts of plans alone are compared
+#   MCSLAB  the checker, else crates/mcslab/out/mcslab; without it scripts of plans alone are
+#           compared
 #   KIT     the kit's folder, else the one that `rt` is in
 #   STEPS   how many steps the script has by which the speed is measured (200000)
 set -u
@@ -62,7 +64,8 @@ make() {
     $CC $flags -o "$to/microkit" "$examples/microkit_system.c" ports/sel4sim/microkit_sim.c "$to"/*.o $layer
 }
 
-# replayed FILE: the simulator and the library give the same bytes and status, and so do single steps
+# replayed FILE: the simulator and the library give the same bytes and status, and so do single
+# steps
 replayed() {
     "$MCSSIM" replay <"$1" >"$room/want" 2>"$room/want.err"
     want=$?
@@ -74,8 +77,8 @@ replayed() {
     done
 }
 
-# done_so COMMAND FILE: mcslab and the library give the same text and status; where a line is refused, each
-# says which
+# done_so COMMAND FILE: mcslab and the library give the same text and status; where a line is
+# refused, each says which
 done_so() {
     "$MCSLAB" "$1" "$2" >"$room/want" 2>"$room/want.err"
     want=$?
@@ -115,7 +118,8 @@ run() {
     back "$room/order.mcs"
 }
 
-# finds WORDS: what a tool wrote names a write behind a block, as the program that has one was run by it
+# finds WORDS: what a tool wrote names a write behind a block, as the program that has one was run
+# by it
 finds() {
     grep -q "$1" "$room/overrun.err" || fail "a write behind a block is not found: $1"
 }
@@ -124,7 +128,8 @@ make plain -O2 || exit 1
 run plain
 if echo 'int main(void) { return 0; }' | $CC -fsanitize=address,undefined -x c -o "$room/probe" - 2>"$room/probe.err" && "$room/probe"; then
     if make checked "-O1 -g -fsanitize=address,undefined -fno-sanitize-recover=all"; then
-        # each program is told that the sanitizer knows little of swapcontext, though it is told of each stack
+        # each program is told that the sanitizer knows little of swapcontext, though it is told of
+        # each stack
         run checked 2>"$room/checked.err"
         grep -v 'makecontext/swapcontext' "$room/checked.err" >&2
         grep -q 'ERROR: \|runtime error: ' "$room/checked.err" && fail "a sanitizer finds an error"

@@ -1,7 +1,9 @@
 #!/bin/sh
-# Tries the controls of edits, in must-fail/ and in wrong-bodies/: NAME.control.md stands beside NAME.edit, has the shape of that edit and
-# keeps the meaning, so its crate must still be proved. That shows that the edit is refused for what it says, and not for how it is written.
-# Each control is applied to a copy of the tree, over what earlier checks left in the folders out/. Give names of crates to try those alone.
+# Tries the controls of edits, in must-fail/ and in wrong-bodies/: NAME.control.md stands beside
+# NAME.edit, has the shape of that edit and keeps the meaning, so its crate must still be proved.
+# That shows that the edit is refused for what it says, and not for how it is written. Each control
+# is applied to a copy of the tree, over what earlier checks left in the folders out/. Give names of
+# crates to try those alone.
 set -eu
 cd "$(dirname "$0")/.."
 copy=$(mktemp -d)

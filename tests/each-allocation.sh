@@ -1,17 +1,20 @@
 #!/bin/sh
-# Refuses each allocation in turn, and each thread: crates/mcs_test_examples, with no file named, gives each call once more that memory was
-# refused to, and writes the same traces; mcssim replay ends with status 6 and a beginning of the trace, or with status 0 and all of
-# it, which is counted; mcssim run ends with status 6 or 7 and nothing written, or with status 0 and a trace that gives itself again;
-# where a thread is refused it ends with status 7 and nothing written. Each does so for short messages and for messages of more than
-# four words, which take memory of their own. Run it after `rt ci`, which leaves the programs in the folders out/; it proves and
-# builds one that is not there. It needs a C compiler, for the library below.
+# Refuses each allocation in turn, and each thread: crates/mcs_test_examples, with no file named,
+# gives each call once more that memory was refused to, and writes the same traces; mcssim replay
+# ends with status 6 and a beginning of the trace, or with status 0 and all of it, which is counted;
+# mcssim run ends with status 6 or 7 and nothing written, or with status 0 and a trace that gives
+# itself again; where a thread is refused it ends with status 7 and nothing written. Each does so
+# for short messages and for messages of more than four words, which take memory of their own. Run
+# it after `rt ci`, which leaves the programs in the folders out/; it proves and builds one that is
+# not there. It needs a C compiler, for the library below.
 set -eu
 cd "$(dirname "$0")/.."
 work=$(mktemp -d)
 trap 'rm -rf "$work"' EXIT
 
-# The allocator of the program under test: the allocation of the number in REFUSED is refused, and the file in COUNTED is made
-# where it came to that; and so for the thread of the number in REFUSED_THREAD.
+# The allocator of the program under test: the allocation of the number in REFUSED is refused, and
+# the file in COUNTED is made where it came to that; and so for the thread of the number in
+# REFUSED_THREAD.
 cat >"$work/refuse.c" <<'C'
 #define _GNU_SOURCE
 #include <dlfcn.h>
@@ -61,8 +64,9 @@ build() {
 build mcs_test_examples
 build mcssim replay
 
-# Runs a program on $input with the allocation (REFUSED) or the thread (REFUSED_THREAD) of this number refused: its output is in
-# $work/out, its status in $status. It fails where the program made fewer of them.
+# Runs a program on $input with the allocation (REFUSED) or the thread (REFUSED_THREAD) of this
+# number refused: its output is in $work/out, its status in $status. It fails where the program made
+# fewer of them.
 refuse() {
     refuse_any REFUSED "$@"
 }
@@ -96,7 +100,8 @@ replays() {
     number=1
     crates/mcssim/out/mcssim replay <"$input" >"$work/plain"
     while refuse $number crates/mcssim/out/mcssim replay; do
-        # status 0 is taken with the whole trace alone, and counted: why the program can do without is not known here
+        # status 0 is taken with the whole trace alone, and counted: why the program can do without
+        # is not known here
         [ $status -ne 0 ] || survived=$((survived + 1))
         [ $status -eq 0 ] || head -c "$(wc -c <"$work/out")" "$work/plain" >"$work/wanted"
         [ $status -ne 0 ] || cp "$work/plain" "$work/wanted"

@@ -28,6 +28,7 @@ SOURCES = {
         ("mcs_lab_check/src/seeing.rt", r'b" got (\w+)"'),
         ("mcs_explore_questions/src/reading.rt", r'(?:is\(first, |first == )b"([a-z]+\??)"'),
         ("mcs_explore_questions/src/reading.rt", r'expect\(alloc, "(\w+)"\)'),
+        ("mcs_explore_questions/src/reading.rt", r'is\(word, b"(\w+)"\)'),
         ("mcs_explore_programs/src/keywords.rt", r'b"(\w+)" => Some\(Keyword'),
         ("mcs_explore_programs/src/conditions.rt", r'(?:take\(|        )b"(\w+)"(?:\)| =>)'),
         ("mcs_explore_programs/src/program.rt", r'expect\("(\w+)"\)'),

@@ -1,6 +1,7 @@
 #!/bin/sh
-# Prints the numbers of docs/WRONG_BODIES.md: the edits and controls of the gate (must-fail/) and outside of it (wrong-bodies/), in how many
-# crates they stand, and the edits of each crate in both, lowest first.
+# Prints the numbers of docs/WRONG_BODIES.md: the edits and controls of the gate (must-fail/) and
+# outside of it (wrong-bodies/), in how many crates they stand, and the edits of each crate in both,
+# lowest first.
 set -eu
 cd "$(dirname "$0")/.."
 

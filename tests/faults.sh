@@ -1,6 +1,7 @@
 #!/bin/sh
-# Has `mcslab` do each call of tests/faults/table.txt, and compares what goes to the standard error and the exit status with what
-# stands there. Run it after rt ci, which leaves the program, or with another program: sh tests/faults.sh PROGRAM
+# Has `mcslab` do each call of tests/faults/table.txt, and compares what goes to the standard error
+# and the exit status with what stands there. Run it after rt ci, which leaves the program, or with
+# another program: sh tests/faults.sh PROGRAM
 set -eu
 cd "$(dirname "$0")/.."
 program=${1:-$PWD/crates/mcslab/out/mcslab}

@@ -1,6 +1,7 @@
 #!/bin/sh
-# Has `mcssim replay` and `mcssim run` read a file, `-` and the standard input, and compares what they write, their exit statuses and what goes
-# to standard error, with --explain and without. Run it after rt ci, which leaves the program, or with another one in $MCSSIM.
+# Has `mcssim replay` and `mcssim run` read a file, `-` and the standard input, and compares what
+# they write, their exit statuses and what goes to standard error, with --explain and without. Run
+# it after rt ci, which leaves the program, or with another one in $MCSSIM.
 set -eu
 cd "$(dirname "$0")/.."
 program=${MCSSIM:-$PWD/crates/mcssim/out/mcssim}
@@ -15,7 +16,8 @@ fails() {
     exit 1
 }
 
-# Compares a call with the status, the standard output and the standard error that are wanted: the last two are files.
+# Compares a call with the status, the standard output and the standard error that are wanted: the
+# last two are files.
 ends() {
     wanted=$1 out=$2 told=$3 status=0
     shift 3
@@ -26,7 +28,8 @@ ends() {
     tried=$((tried + 1))
 }
 
-# Compares a call that is refused with its status, and with a text of standard error; it writes nothing.
+# Compares a call that is refused with its status, and with a text of standard error; it writes
+# nothing.
 refuses() {
     wanted=$1 text=$2 status=0
     shift 2

@@ -1,6 +1,6 @@
 #!/bin/sh
-# Compares docs/FORMS.md with the program: each example of a step is read, alone behind the boot of the first example, as a step
-# of that very spelling. Run it after rt ci, which leaves the program.
+# Compares docs/FORMS.md with the program: each example of a step is read, alone behind the boot of
+# the first example, as a step of that very spelling. Run it after rt ci, which leaves the program.
 set -eu
 cd "$(dirname "$0")/.."
 program=crates/mcssim/out/mcssim

@@ -1,7 +1,8 @@
 #!/bin/sh
-# Compares what `mcslab` says of itself: each example of --help is done in a fresh folder; each command and option of --help stands in
-# the manual page and in the completions for each shell; each form of an entry in `forms plan` is read, and what it lacks is told with
-# that form. Run it after rt ci, which leaves the program, or with another program: sh tests/help.sh PROGRAM
+# Compares what `mcslab` says of itself: each example of --help is done in a fresh folder; each
+# command and option of --help stands in the manual page and in the completions for each shell; each
+# form of an entry in `forms plan` is read, and what it lacks is told with that form. Run it after
+# rt ci, which leaves the program, or with another program: sh tests/help.sh PROGRAM
 set -eu
 cd "$(dirname "$0")/.."
 program=${1:-$PWD/crates/mcslab/out/mcslab}

@@ -1,6 +1,7 @@
 #!/bin/sh
-# Has `mcslab` read what nobody should give it: inputs without an end, with too little memory, and bytes that a terminal obeys; then
-# changed inputs by tests/hostile.py, COUNT for each command. Run it after rt ci, which leaves the program, or with another program:
+# Has `mcslab` read what nobody should give it: inputs without an end, with too little memory, and
+# bytes that a terminal obeys; then changed inputs by tests/hostile.py, COUNT for each command. Run
+# it after rt ci, which leaves the program, or with another program:
 #
 #     sh tests/hostile.sh [PROGRAM [COUNT]]
 #
@@ -59,7 +60,8 @@ rm "$work/lines.plan" "$work/lines.mcs" "$work/trace" "$work/given"
 ends 0 '' why "$work/names.mcs"
 rm "$work/names.mcs"
 
-# Bytes that a terminal obeys, in a word, in a name and in the name of a file: told, and not written.
+# Bytes that a terminal obeys, in a word, in a name and in the name of a file: told, and not
+# written.
 odd=$(printf 'a\033[31m\007\342\200\256b')
 printf 'endpoint ep\nthread a prio 1\na has ep\n\na: %s ep 1\n' "$odd" >"$work/entry.plan"
 printf 'endpoint %s\n' "$odd" >"$work/name.plan"

@@ -54,7 +54,8 @@ holds "the file is not named" "grep -q 'end1.mcs is not a script of mcslab' $fol
 wanted "a file in the way, forced" 0 "$(status_of --scripts "$kept" --force "$small")"
 holds "a file is not overwritten" "head -1 $kept/end1.mcs | grep -q '^# by mcslab explore$'"
 
-# A script that may not be written ends the program by a signal: the report stands by then, of a plan, too.
+# A script that may not be written ends the program by a signal: the report stands by then, of a
+# plan, too.
 for file in "$deadlock" "$here/examples/explore/disk-log.plan"; do
     # shellcheck disable=SC3045
     (ulimit -f 0 && "$lab" explore --scripts "$folder/full" "$file") 2>/dev/null | cat >"$folder/out" || true

@@ -1,6 +1,7 @@
 #!/bin/sh
-# Compares what `mcslab` tells of each script of tests/lab with what stands beside it, and has Debian's `prove` read the verdicts
-# on examples/. Run it after rt ci, which leaves the program, or with another program: sh tests/lab.sh PROGRAM
+# Compares what `mcslab` tells of each script of tests/lab with what stands beside it, and has
+# Debian's `prove` read the verdicts on examples/. Run it after rt ci, which leaves the program, or
+# with another program: sh tests/lab.sh PROGRAM
 set -eu
 cd "$(dirname "$0")/.."
 program=${1:-crates/mcslab/out/mcslab}

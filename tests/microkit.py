@@ -5,7 +5,7 @@
     python3 tests/microkit.py --write [MCSLAB]   writes the expected files anew, and the steps of the cases
 
 The plan of examples/microkit, merged into its description, has to stay as it is. tests/microkit/cases.txt has the rows of the table of
-cases in docs/MICROKIT.md: of each small system, which has one order, the steps of the domains that `of` names.
+cases in examples/microkit/README.md: of each small system, which has one order, the steps of the domains that `of` names.
 """
 import os
 import subprocess

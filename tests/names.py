@@ -1,7 +1,7 @@
 #!/usr/bin/env python3
 """Looks whether the code has what the documents name; nothing has to be built before.
 
-Reads README.md, CONTRIBUTING.md and docs/*.md. A word in backquotes counts by its shape; comments are no code.
+Reads each README.md, CONTRIBUTING.md and docs/*.md. A word in backquotes counts by its shape; comments are no code.
 
 (a) `mcs_x` (anywhere), `mcslab`, `mcssim`: a crate of crates.txt with a folder in crates/, or a function that C calls.
 (b) A path (it has a `/` or a suffix, and `*` stands for anything): a file or a folder. Specifications may lack `.antt`.
@@ -73,7 +73,8 @@ def missing(page):
                     yield f"{page}:{text.count(chr(10), 0, block.start()) + 1 + cell.count(chr(10), 0, span.start())}: {word}"
 
 
-pages = ["README.md", "CONTRIBUTING.md"] + sorted(f"docs/{path.name}" for path in (ROOT / "docs").glob("*.md"))
+is_page = re.compile(r"(?:.*/)?(?:README|CONTRIBUTING)\.md|docs/[^/]+\.md")
+pages = sorted(str(path) for path in paths if is_page.fullmatch(str(path)))
 found = [it for page in pages for it in missing(page)]
 found += [f"{page}: {it}" for page in pages for it in sorted(set(re.findall(r"\bmcs_\w+", read(page))) - crates)]
 print("\n".join(found + [f"{len(found)} names that the code does not have"]))

@@ -1,6 +1,7 @@
 #!/bin/sh
-# Does what a new user does first, in a fresh folder with nothing but `mcslab`: init, check, draw, why, state, explore, walk, all on
-# plans. Each message names the plan's own line. Run it after rt ci, which leaves the program, or: sh tests/new-user.sh PROGRAM
+# Does what a new user does first, in a fresh folder with nothing but `mcslab`: init, check, draw,
+# why, state, explore, walk, all on plans. Each message names the plan's own line. Run it after rt
+# ci, which leaves the program, or: sh tests/new-user.sh PROGRAM
 set -eu
 here=$(cd "$(dirname "$0")/.." && pwd)
 program=${1:-$here/crates/mcslab/out/mcslab}

@@ -1,8 +1,8 @@
 #!/bin/sh
-# Draws each script of steps of the gallery and of examples/ with PROGRAM (a built mcslab): each SVG must be accepted by xmllint and
-# become a PNG, each page is stepped through in Chromium, and two of them are looked at in several widths, light and dark (page.py).
-# The pictures that are kept are written anew with --keep.
-# Packages: libxml2-utils, librsvg2-bin, chromium, nodejs, python3.
+# Draws each script of steps of the gallery and of examples/ with PROGRAM (a built mcslab): each SVG
+# must be accepted by xmllint and become a PNG, each page is stepped through in Chromium, and two of
+# them are looked at in several widths, light and dark (page.py). The pictures that are kept are
+# written anew with --keep. Packages: libxml2-utils, librsvg2-bin, chromium, nodejs, python3.
 #
 #     tests/pictures.sh PROGRAM FOLDER [--keep]
 set -eu

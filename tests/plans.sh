@@ -1,7 +1,8 @@
 #!/bin/sh
-# Has `mcslab` compile each plan of the gallery, and compares the script, the map and a trace with names with what is kept; checks and
-# draws each plan as it is; tells a fault by its line and status; then changes a byte of each plan 1,000 times. Run it after rt ci,
-# which leaves the programs.
+# Has `mcslab` compile each plan of the gallery, and compares the script, the map and a trace with
+# names with what is kept; checks and draws each plan as it is; tells a fault by its line and
+# status; then changes a byte of each plan 1,000 times. Run it after rt ci, which leaves the
+# programs.
 set -eu
 cd "$(dirname "$0")/.."
 program=crates/mcslab/out/mcslab
@@ -19,7 +20,8 @@ for plan in "$data"/gallery/*.plan "$data"/plans/*.plan; do
     "$program" compile "$plan" | cmp - "$kept" || { echo "plans.sh: $plan"; exit 1; }
     "$program" compile <"$plan" | cmp - "$kept" || { echo "plans.sh: $plan"; exit 1; }
     "$program" check "$kept" >"$work/verdicts" || { echo "plans.sh: $kept"; cat "$work/verdicts"; exit 1; }
-    # with the plan itself each verdict is that of its own line, and the picture has the same arrows, and the plan's lines
+    # with the plan itself each verdict is that of its own line, and the picture has the same
+    # arrows, and the plan's lines
     "$program" check "$plan" >"$work/verdicts" || { echo "plans.sh: $plan"; cat "$work/verdicts"; exit 1; }
     sed -n 's/^ok [0-9]* - line \([0-9]*\): .*/\1/p' "$work/verdicts" >"$work/lines"
     grep -n '^[[:space:]]*?' "$plan" | cut -d: -f1 | cmp - "$work/lines" || { echo "plans.sh: lines of $plan"; exit 1; }

@@ -1,7 +1,8 @@
 #!/bin/sh
-# Has `mcslab` end in each way that can be brought about from outside, and compares the exit status and what goes to standard error;
-# each status stands in the table of `mcslab --help`. `check` writes each verdict before it waits for more of a pipe. Run it after
-# rt ci, which leaves the program, or with another program: sh tests/statuses.sh PROGRAM
+# Has `mcslab` end in each way that can be brought about from outside, and compares the exit status
+# and what goes to standard error; each status stands in the table of `mcslab --help`. `check`
+# writes each verdict before it waits for more of a pipe. Run it after rt ci, which leaves the
+# program, or with another program: sh tests/statuses.sh PROGRAM
 set -eu
 cd "$(dirname "$0")/.."
 program=${1:-$PWD/crates/mcslab/out/mcslab}
@@ -11,7 +12,8 @@ trap 'rm -rf "$work"' EXIT
 "$program" --help >"$work/help"
 tried=0
 
-# Compares the status and the standard error of a call with those that are wanted; the standard input is that of the caller.
+# Compares the status and the standard error of a call with those that are wanted; the standard
+# input is that of the caller.
 ends() {
     wanted=$1 text=$2 status=0
     shift 2

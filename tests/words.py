@@ -5,7 +5,7 @@
     program wrote (blocks between ```), controls (*.control.md, which are code) and crates/*/data. Code is the formatter's.
 (b) Doc comments of functions that change something and do not begin with a verb, as `Sets`. Such a function has a `&mut`
     parameter, or returns nothing or `Result<(), ..>`. Left out are laws, whose body is `{}`, and functions without a comment.
-(c) Words in backquotes of README.md, CONTRIBUTING.md and docs/*.md that are no word of the sources and no file.
+(c) Words in backquotes of each README.md, CONTRIBUTING.md and docs/*.md that are no word of the sources and no file.
 
 Prints each with its file and line, then how many there are. Exits with 1 where there is any of (a) or (c), or 20 of (b) or more.
 """
@@ -49,6 +49,8 @@ def lines_of(path):
 
 
 def is_data(path):
+    if path.name == "README.md":
+        return False
     return re.match(r"crates/[^/]+/data/", str(path)) or path.name.endswith(".control.md")
 
 
@@ -140,7 +142,8 @@ def unknown(paths):
     sources = [path for path in paths if path.suffix in (".rt", ".antt", ".sh", ".py", ".mjs", ".c", ".h", ".mcs", ".plan")]
     text = "\n".join("\n".join(lines_of(path)) for path in sources + [Path("crates.txt")] if path.name != "words.py")
     known = set(re.findall(r"[A-Za-z_][A-Za-z0-9_]*", text)) | {path.stem for path in paths} | set(EXCEPTIONS)
-    pages = [path for path in paths if str(path) in ("README.md", "CONTRIBUTING.md") or re.fullmatch(r"docs/[^/]+\.md", str(path))]
+    is_page = re.compile(r"(?:.*/)?(?:README|CONTRIBUTING)\.md|docs/[^/]+\.md")
+    pages = [path for path in paths if is_page.fullmatch(str(path))]
     for page in pages:
         whole = re.sub(r"^```.*?^```", lambda block: "\n" * block.group().count("\n"), "\n".join(lines_of(page)), flags=re.M | re.S)
         for span in re.finditer(r"`([^`]+)`", whole):

@@ -1,7 +1,9 @@
 #!/bin/sh
-# Tries the edits of crates/NAME/wrong-bodies/, which have the form of must-fail edits and are refused like these, but are too many for the
-# gate: `rt must-fail` is asked for them in a copy of the tree, over what earlier checks left in the folders out/. What was tried before on
-# this machine, with nothing changed that it stands on, is told and not tried again. Give names of crates to try those alone.
+# Tries the edits of crates/NAME/wrong-bodies/, which have the form of must-fail edits and are
+# refused like these, but are too many for the gate: `rt must-fail` is asked for them in a copy of
+# the tree, over what earlier checks left in the folders out/. What was tried before on this
+# machine, with nothing changed that it stands on, is told and not tried again. Give names of crates
+# to try those alone.
 set -eu
 cd "$(dirname "$0")/.."
 copy=$(mktemp -d)

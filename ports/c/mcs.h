@@ -2,8 +2,8 @@
  *
  * Bytes in, bytes out: no call keeps anything, none calls back, and there is no global state, so
  * several runs at once need no lock. Memory is taken by malloc and given back before a call
- * returns. The functions are proved (docs/C.md says what), this header is not: it has to say what
- * crates/mcs_c says.
+ * returns. The functions are proved (ports/README.md says what), this header is not: it has to say
+ * what crates/mcs_c says.
  *
  * Each call writes as much of its text as there is room for at `out`, and how it ended at `end`. A
  * buffer that is too small is filled to its end, and `end->length` is what the whole text needs:

@@ -13,7 +13,7 @@ fn link(file: &Path) {
     };
     assert!(
         file.is_file(),
-        "{} is not there: docs/C.md says how to build it",
+        "{} is not there: ports/README.md says how to build it",
         file.display()
     );
     println!("cargo:rerun-if-changed={}", file.display());

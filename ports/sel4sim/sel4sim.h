@@ -1,4 +1,4 @@
-/* sel4sim.h: seL4 threads in C, as coroutines over the proved simulator (docs/C.md).
+/* sel4sim.h: seL4 threads in C, as coroutines over the proved simulator (ports/README.md).
  *
  * A test gives a boot, and the code of its threads; sel4sim_run lets them run. A turn is: the code
  * of one thread to its next call of the kernel, and that call. Between two turns the test's seed,

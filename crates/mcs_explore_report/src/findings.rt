@@ -238,8 +238,8 @@ impl<'a, P: Progress> Findings<'a, P> {
             .any(|stuck| stuck.users.iter().any(|one| *one == user))
     }
 
-    /// Returns the first entry that is given again after it was answered on the way to what is seen,
-    /// if one is. OutOfMemory where memory was refused.
+    /// Returns the first entry that is given again after it was answered, on the way to what is
+    /// seen, if one is. OutOfMemory where memory was refused.
     pub fn given_again(&self, seen: Sighting) -> Result<Option<Event>, LabFault> {
         let turns = turns_of(self.orders, seen)?;
         given_again(self.alloc, self.script, &turns)

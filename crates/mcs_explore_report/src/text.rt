@@ -123,7 +123,8 @@ pub fn put_end<P: Progress>(
     Ok(())
 }
 
-/// Puts users that are stuck from one state on, behind a mark. OutOfMemory where memory was refused.
+/// Puts users that are stuck from one state on, behind a mark. OutOfMemory where memory
+/// was refused.
 pub fn put_stuck<P: Progress>(
     page: &mut Page,
     findings: &Findings<'_, P>,

@@ -68,7 +68,7 @@ module _ (users : List User) (g : Going) (core : CoreId) where
       one-due k j place a.user b.user a.place b.place a.can a.number b.can b.number
 
   module _ (best : Pick) (is : IsBest users g core best) where
-    -- what a user can give may be picked, where its thread may precede all that the best goes before
+    -- what a user can give may be picked, where its thread may precede all that the best precedes
     given-picked : (k : Pick) (t : ObjId) (u : User) → Gives users g core k.user k t → slice_get users k.user ≡ Some u
         → ((v : User) → GoesBefore (log_of g.book) is.user.thread v.thread → MayPrecede u.schedule (log_of g.book) u.thread v.thread) → CanBePicked users g core k
     given-picked k t u gives at precedes =

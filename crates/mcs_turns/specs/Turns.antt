@@ -81,8 +81,8 @@ MayPrecede schedule.Serial R t u = GoesBefore R t u
 MayPrecede schedule.Equal R t u = prio_of R u ≤ prio_of R t
 MayPrecede schedule.Any R t u = Unit {0}
 
--- it is the due entry of a user who can give one, and whose thread the core may pick beside those of
--- all others who can
+-- it is the due entry of a user who can give one, and whose thread the core may pick beside those
+-- of all others who can
 pub record CanBePicked (users : List User) (g : Going) (core : CoreId) (k : Pick) : Type 0 where
   pub user : User
   pub place : Position

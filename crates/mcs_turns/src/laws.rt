@@ -34,8 +34,8 @@ pub fn one_pick()
     ensures { at.2 ≡ at.3 }
 {}
 
-/// An entry (at.2) of users (at.0) that a core (at.1) enters at a point of a run (at.3) leads to one
-/// point (at.4 and at.5).
+/// An entry (at.2) of users (at.0) that a core (at.1) enters at a point of a run (at.3) leads to
+/// one point (at.4 and at.5).
 pub fn one_turn()
     ghost at: { List User × CoreId × Pick × Going × Going × Going }
     requires one { IsTurn at.0 at.1 at.2 at.3 at.4 }

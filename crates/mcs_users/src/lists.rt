@@ -10,8 +10,8 @@ use std::alloc::Global;
 use std::marker::Model;
 
 /// A thread, its entries, the number of the entry, from 0, with which a list goes on after the last
-/// (None where the last is its last), its program with what it fills in, and when its core picks it.
-/// Without a program it gives its entries one after the other.
+/// (None where the last is its last), its program with what it fills in, and when its core picks
+/// it. Without a program it gives its entries one after the other.
 #[derive(Drop)]
 pub struct UserList {
     pub thread: ObjId,

@@ -20,7 +20,8 @@ syntax keyword mcsAsked contained away waits owed by got heard answered bound ho
 syntax keyword mcsAsked contained chain homed owes with pending
 syntax keyword mcsAskedState contained NotRunning NoContext WrongCore running restart inactive closed
 syntax keyword mcsAskedState contained nothing
-syntax keyword mcsQuestionWord contained idle live answer answer? some never before again and in schedule serial equal any resumed goes on
+syntax keyword mcsQuestionWord contained idle live answer answer? some never before again and in
+syntax keyword mcsQuestionWord contained schedule serial equal any resumed goes on
 
 syntax keyword mcsStatement contained let forever while repeat if else break continue stop and not
 syntax keyword mcsStatement contained has bit

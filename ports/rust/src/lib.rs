@@ -6,8 +6,8 @@
 //! Run: lines ── take ──> what each adds to the trace
 //! ```
 //!
-//! The calls are those of `ports/c/mcs.h`, which `docs/C.md` describes. They are proved; this crate
-//! is not, and its tests are in `tests/`.
+//! The calls are those of `ports/c/mcs.h`, which `ports/README.md` describes. They are proved; this
+//! crate is not, and its tests are in `tests/`.
 
 pub mod raw;
 mod run;
