@@ -290,13 +290,13 @@ impl Planned<'_> {
 struct Orders<'a, W> {
     planned: &'a Planned<'a>,
     alloc: Global,
-    to: W,
+    to: &'a mut W,
 }
 
 impl<W: Write> Write for Orders<'_, W> {
     fn write(&mut self, piece: &[u8]) -> io::Result<usize> {
         self.planned
-            .put(self.alloc, piece, Form::Orders, &mut self.to)?;
+            .put(self.alloc, piece, Form::Orders, self.to)?;
         Ok(piece.len())
     }
 
