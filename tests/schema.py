@@ -38,10 +38,14 @@ def documents(schema, text):
     return [json.loads(line) for line in text.splitlines()] if schema == "json" else [json.loads(text)]
 
 
+# what a document has only if there is something to say
+OPTIONAL = {"name", "names", "rules"}
+
+
 def changed(document):
     """Documents that no schema may take: one member lost, or one more."""
     for name in document:
-        if name != "name":
+        if name not in OPTIONAL:
             yield f"without {name}", {key: value for key, value in document.items() if key != name}
     yield "with one more", {**document, "other": 0}
 
