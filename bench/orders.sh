@@ -2,12 +2,14 @@
 # sh bench/orders.sh FOLDER [RUNS]: with the programs mcssim and mcslab of a folder, runs each script of users of
 # crates/mcs_test_examples/data/explore so often (1,000 times) on real threads. Each answer of each run has to be one that
 # `mcslab explore` tells of that entry's text and thread, and where users wait in the end has to be an end that it tells
-# (not where a user goes on again and again, which `mcssim run` does not).
+# (not where a user goes on again and again, which `mcssim run` does not). It gives an entry again that was answered, so
+# scripts in which no user does are left out.
 programs=$1
 runs=${2:-1000}
 room=$(mktemp -d)
 failed=0
 for script in "$(dirname "$0")"/../crates/mcs_test_examples/data/explore/*.mcs; do
+    grep -q '^#! resumed' "$script" && continue
     "$programs/mcslab" explore "$script" > "$room/told"
     done=0
     while [ "$done" -lt "$runs" ]; do
