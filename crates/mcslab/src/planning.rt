@@ -295,8 +295,7 @@ struct Orders<'a, W> {
 
 impl<W: Write> Write for Orders<'_, W> {
     fn write(&mut self, piece: &[u8]) -> io::Result<usize> {
-        self.planned
-            .put(self.alloc, piece, Form::Orders, self.to)?;
+        self.planned.put(self.alloc, piece, Form::Orders, self.to)?;
         Ok(piece.len())
     }
 
