@@ -6,7 +6,7 @@ ghost use Rattle.mcs_types.specs.Limits.{core_limit};
 ghost use Rattle.mcs_plan_source.specs.Naming.{next_of, texts};
 ghost use Rattle.mcs_plan_source.specs.Lines.{object_more, objects_line, held_by, says_as, has_slot, usual_name, given_name, slot_name, slot_added, slot_more, slot_kept, slots_more, has_line, tie_line, cores_line};
 ghost use Rattle.mcs_plan_source.specs.Order.{IsInOrder, IsWhole};
-ghost use Rattle.mcs_plan_source.specs.Parts.{with_last_space, in_then, passive_then, form_added};
+ghost use Rattle.mcs_plan_source.specs.Parts.{with_last_space, in_then, passive_then, form_added, tie_added};
 ghost use Rattle.mcs_plan_source.specs.Refusals.{Refuses, TellsOfLine};
 ghost use Rattle.mcs_plan_source.specs.Saying.{said, with_thread};
 ghost use Rattle.mcs_plan_source.specs.ThreadLines.{core_then, receiving_then, without_then, part_then, next_part, parts_then, plain_form, form_said, form_of, said_receiving, context_more, space_more, own_context, with_own_context, with_own_space, thread_more, with_passive, thread_said, thread_line, on_then, context_line, radix_then, cnode_line, line_begun, says_has, ReadsLine, RefusesLine};
@@ -567,18 +567,23 @@ impl Plan {
             .any(|tie| tie.notification.is_same(notification))
     }
 
-    /// Reads the line of a binding: `tie THREAD NOTIFICATION`. Bound where one of the two is bound
-    /// already.
-    fn read_tie(&mut self, alloc: Global, words: &mut Words<'_>) -> Result<(), Why>
-        ensures added { OnOk result (tie_line words.old (said self.old) ≡ Ok (said self.new)) }
-        ensures told { IfErr result (Refuses (tie_line words.old (said self.old))) }
+    /// Adds a binding of a thread and a notification, which the line names by these words. Bound
+    /// where one of the two is bound already.
+    fn add_tie(
+        &mut self,
+        alloc: Global,
+        thread_word: &str,
+        thread: ObjId,
+        word: &str,
+        notification: ObjId,
+    ) -> Result<(), Why>
+        ensures added { OnOk result
+            (tie_added thread_word.now thread word.now notification (said self.old)
+            ≡ Ok (said self.new)) }
+        ensures told { IfErr result
+            (Refuses (tie_added thread_word.now thread word.now notification (said self.old))) }
         ensures unchanged { OnErr result (said self.new ≡ said self.old) }
     {
-        let thread_word = words.need("the name of a thread")?;
-        let thread = self.names.of_kind(alloc, Kind::Thread, thread_word)?;
-        let word = words.need("the name of a notification")?;
-        let notification = self.names.of_kind(alloc, Kind::Notification, word)?;
-        words.end(alloc)?;
         if self.is_thread_bound(thread) {
             return Err(Why::Bound {
                 word: String::from_str(alloc, thread_word)?,
@@ -594,6 +599,21 @@ impl Plan {
             notification,
         })?;
         Ok(())
+    }
+
+    /// Reads the line of a binding: `tie THREAD NOTIFICATION`. Bound where one of the two is bound
+    /// already.
+    fn read_tie(&mut self, alloc: Global, words: &mut Words<'_>) -> Result<(), Why>
+        ensures added { OnOk result (tie_line words.old (said self.old) ≡ Ok (said self.new)) }
+        ensures told { IfErr result (Refuses (tie_line words.old (said self.old))) }
+        ensures unchanged { OnErr result (said self.new ≡ said self.old) }
+    {
+        let thread_word = words.need("the name of a thread")?;
+        let thread = self.names.of_kind(alloc, Kind::Thread, thread_word)?;
+        let word = words.need("the name of a notification")?;
+        let notification = self.names.of_kind(alloc, Kind::Notification, word)?;
+        words.end(alloc)?;
+        self.add_tie(alloc, thread_word, thread, word, notification)
     }
 
     /// Reads the line of the number of cores, which comes first. Late where a context was made.
