@@ -217,7 +217,15 @@ fn are_of_one_kind(one: Rule, other: Rule) -> bool {
 fn rule_of(line: &AskedLine) -> Option<Rule> {
     match &line.asked {
         Asked::Ruled { rule } => Some(*rule),
-        _ => None,
+        Asked::Idle { .. }
+        | Asked::Live { .. }
+        | Asked::Answer { .. }
+        | Asked::AnswerIf { .. }
+        | Asked::Some { .. }
+        | Asked::Never { .. }
+        | Asked::Apart { .. }
+        | Asked::Before { .. }
+        | Asked::Again { .. } => None,
     }
 }
 
