@@ -19,7 +19,7 @@ use Rattle.mcs_turns.specs.declared.position.Schedule.{Schedule}
 use Rattle.mcs_turns.specs.declared.position.Schedule.TheVariants as schedule
 use Rattle.mcs_turns.specs.declared.reached.Reached.{Reached}
 use Rattle.mcs_turns.specs.Due.{choices, due_by, picks_at}
-use Rattle.mcs_turns.specs.Turns.{User, Going, CanGive, CanBePicked, MayPrecede, ArePicksOf, ArePicks, IsStale, IsTurn, Follows, IsOver, AreInRange, all_told, current, outcome, behind, entered, given, put_at, saved_at}
+use Rattle.mcs_turns.specs.Turns.{User, Going, CanGive, CanBePicked, MayPrecede, ArePicksOf, ArePicks, IsStale, IsTurn, Follows, IsOver, AreInRange, all_told, outcome, behind, entered, given, put_at, saved_at}
 use Rattle.mcs_turns.specs.Mail.{reached_from}
 use Rattle.mcs_turns.proofs.Choices.{IsOneOf, choice-in, choice-out, stale-same}
 use Rattle.mcs_turns.proofs.RunLaws.{run-legal, run-long}
@@ -53,7 +53,7 @@ module _ (numbered : Bool) (users : List User) (boot : Boot) (g h : Going) (a : 
   can-there core i u p c = record {
     user = c.user;
     place = subst (λ ps. slice_get ps i ≡ Some p) a.places c.place;
-    left = subst (λ s. due_by s (current u p) < length u.entries) (status-same (log_of g.book) (log_of h.book) logs u.thread) c.left;
+    left = subst (λ s. due_by s p < length u.entries) (status-same (log_of g.book) (log_of h.book) logs u.thread) c.left;
     enters = sym (may_enter-same (log_of g.book) (log_of h.book) logs core u.thread) ∙ c.enters;
   }
 
@@ -61,7 +61,7 @@ module _ (numbered : Bool) (users : List User) (boot : Boot) (g h : Going) (a : 
   can-back core i u p c = record {
     user = c.user;
     place = subst (λ ps. slice_get ps i ≡ Some p) (sym a.places) c.place;
-    left = subst (λ s. due_by s (current u p) < length u.entries) (sym (status-same (log_of g.book) (log_of h.book) logs u.thread)) c.left;
+    left = subst (λ s. due_by s p < length u.entries) (sym (status-same (log_of g.book) (log_of h.book) logs u.thread)) c.left;
     enters = may_enter-same (log_of g.book) (log_of h.book) logs core u.thread ∙ c.enters;
   }
 
@@ -76,7 +76,7 @@ module _ (numbered : Bool) (users : List User) (boot : Boot) (g h : Going) (a : 
     user = b.user;
     place = b.place;
     can = can-there core k.user b.user b.place b.can;
-    number = b.number ∙ ap (λ s. due_by s (current b.user b.place)) (status-same (log_of g.book) (log_of h.book) logs b.user.thread);
+    number = b.number ∙ ap (λ s. due_by s b.place) (status-same (log_of g.book) (log_of h.book) logs b.user.thread);
     best = λ i v q c.
         let d : CanGive users g core i v q = can-back core i v q c in
         precede-same b.user.schedule (log_of g.book) (log_of h.book) b.user.thread v.thread (rank core b.user.thread b.can.enters) (rank core v.thread d.enters) (b.best i v q d);
@@ -87,7 +87,7 @@ module _ (numbered : Bool) (users : List User) (boot : Boot) (g h : Going) (a : 
     user = b.user;
     place = b.place;
     can = can-back core k.user b.user b.place b.can;
-    number = b.number ∙ ap (λ s. due_by s (current b.user b.place)) (sym (status-same (log_of g.book) (log_of h.book) logs b.user.thread));
+    number = b.number ∙ ap (λ s. due_by s b.place) (sym (status-same (log_of g.book) (log_of h.book) logs b.user.thread));
     best = λ i v q c.
         let d : CanGive users h core i v q = can-there core i v q c in
         precede-same b.user.schedule (log_of h.book) (log_of g.book) b.user.thread v.thread (rank-back core b.user.thread b.can.enters) (rank-back core v.thread d.enters) (b.best i v q d);

@@ -7,6 +7,7 @@ use Rattle.std.proofs.Common.{refl, sym, ap, ◌∙◌, subst, arith, inl, inr, 
 use Rattle.std.proofs.lemmas.List.Elements.{Contains-append_cases}
 use Rattle.mcs_types.specs.declared.entry.Answer.{Answer}
 use Rattle.mcs_book.specs.Boots.{Boot}
+use Rattle.mcs_turns.specs.declared.position.Position.{Position}
 use Rattle.mcs_turns.specs.Turns.{User, Going, Follows, IsOver, beginning}
 use Rattle.mcs_turns.proofs.OneTurn.{one-turn}
 use Rattle.mcs_explore_search.specs.Paths.{Path}
@@ -122,7 +123,7 @@ one-told Has a b users place g t told = λ shown ts made has are. (
 )
   where
     m : Made
-    m = record { place = place; turn = t; answer = told.answer; going = told.going }
+    m = record { place = place; turn = t; answer = told.answer; from = g.places; going = told.going }
 
     places : {ts : List Turn} (made : List Made) → AreToldOf users place g ts made → (j : ℕ) (x : Made) → (slice_get made j ≡ Some x) ⊎ ((j ≡ length made) × (x ≡ m)) → x.place ≡ place
     places made are j x (inl h) = are.place j x h
@@ -272,12 +273,12 @@ state-counted (Ok x) Has a b users place g over same more sees = λ shown is. re
 }
 state-counted (Err e) Has a b users place g over same more sees = sees
 
-pub turn-counted : {W : Type 0} (Has : W → List User → Shown → Type 0) (a b : Counting W) (users : List User) (place : ℕ) (t : Turn) (answer : Answer) (h : Going)
-    → b.turns ≡ min (a.turns + 1) (2 ^ 64 - 1) → b.ends ≡ a.ends → SeesTurn Has a.watch b.watch users place t answer h → SeesTurn (HasCounted Has) a b users place t answer h
-turn-counted Has a b users place t answer h more same sees = λ shown is. record {
+pub turn-counted : {W : Type 0} (Has : W → List User → Shown → Type 0) (a b : Counting W) (users : List User) (place : ℕ) (t : Turn) (answer : Answer) (from : List Position) (h : Going)
+    → b.turns ≡ min (a.turns + 1) (2 ^ 64 - 1) → b.ends ≡ a.ends → SeesTurn Has a.watch b.watch users place t answer from h → SeesTurn (HasCounted Has) a b users place t answer from h
+turn-counted Has a b users place t answer from h more same sees = λ shown is. record {
   has = sees shown is.has;
   counted = record {
-    turns = turns-counted a.turns b.turns shown.turns (record { place = place; turn = t; answer = answer; going = h }) is.counted.turns more;
+    turns = turns-counted a.turns b.turns shown.turns (record { place = place; turn = t; answer = answer; from = from; going = h }) is.counted.turns more;
     ends = same ∙ is.counted.ends;
   };
 }
@@ -302,11 +303,11 @@ state-told (Ok x) Has a b users place g over ends goes sees = record { is_over =
 state-told (Err e) Has a b users place g over ends goes sees = sees
 
 pub turn-told : {W : Type 0} (Has : W → List User → Shown → Type 0) (a b : W) (users : List User) (place : ℕ) (t : Turn) (g h : Going) (answer : Answer)
-    → Leads users t g h → last_answer h.book ≡ Some answer → SeesTurn Has a b users place t answer h → IsToldTurn Has a b users place t g
+    → Leads users t g h → last_answer h.book ≡ Some answer → SeesTurn Has a b users place t answer g.places h → IsToldTurn Has a b users place t g
 turn-told Has a b users place t g h answer leads told sees = record {
   answer = answer;
   going = h;
-  is = record { leads = leads; answer = told };
+  is = record { leads = leads; from = refl; answer = told };
   sees = sees;
 }
 

@@ -3,6 +3,7 @@ use Rattle.std.specs.Prelude.{ℕ, ◌≡◌, ◌≤◌, ◌↔◌, ◌+◌, ◌
 use Rattle.std.specs.Int.{from_bool}
 use Rattle.std.specs.List.{Contains}
 use Rattle.mcs_types.specs.declared.entry.Answer.{Answer}
+use Rattle.mcs_turns.specs.declared.position.Position.{Position}
 use Rattle.mcs_turns.specs.Turns.{User, Going, IsOver}
 use Rattle.mcs_explore_search.specs.Paths.{Path}
 use Rattle.mcs_explore_walk.specs.declared.walk.Turn.{Turn}
@@ -15,11 +16,13 @@ pub record Sight : Type 0 where
   pub going : Going
   pub is_over : Bool
 
--- a turn from the state in a place, what it was answered, and what is after it
+-- a turn from the state in a place, what it was answered, how far the users were before it, and what
+-- is after it
 pub record Made : Type 0 where
   pub place : ℕ
   pub turn : Turn
   pub answer : Answer
+  pub from : List Position
   pub going : Going
 
 -- all that was shown, in its order
@@ -33,8 +36,8 @@ nothing = record { states = []; turns = [] }
 abbrev pub with_state : ℕ → Going → Bool → Shown → Shown
 with_state place g over shown = record shown { states = shown.states ++ (record { place = place; going = g; is_over = over }) ∷ [] }
 
-abbrev pub with_turn : ℕ → Turn → Answer → Going → Shown → Shown
-with_turn place t a h shown = record shown { turns = shown.turns ++ (record { place = place; turn = t; answer = a; going = h }) ∷ [] }
+abbrev pub with_turn : ℕ → Turn → Answer → List Position → Going → Shown → Shown
+with_turn place t a from h shown = record shown { turns = shown.turns ++ (record { place = place; turn = t; answer = a; from = from; going = h }) ∷ [] }
 
 -- it is the state to which the path of this place leads
 pub record IsStateAt (users : List User) (start : Going) (paths : List (List Turn)) (i : ℕ) (s : Sight) : Type 0 where
@@ -47,6 +50,7 @@ pub record IsStateAt (users : List User) (start : Going) (paths : List (List Tur
 -- it is a turn of the rule from a state, and this is its answer
 pub record IsTurnFrom (users : List User) (g : Going) (m : Made) : Type 0 where
   pub leads : Leads users m.turn g m.going
+  pub from : m.from ≡ g.places
   pub answer : last_answer m.going.book ≡ Some m.answer
 
 -- it is a turn from the state to which the path of its place leads
@@ -117,8 +121,8 @@ abbrev pub SeesState : {W : Type 0} → (W → List User → Shown → Type 0) �
 SeesState Has old new users place g over = (shown : Shown) → Has old users shown → Has new users (with_state place g over shown)
 
 -- one who sees a turn more
-abbrev pub SeesTurn : {W : Type 0} → (W → List User → Shown → Type 0) → W → W → List User → ℕ → Turn → Answer → Going → Type 0
-SeesTurn Has old new users place t a h = (shown : Shown) → Has old users shown → Has new users (with_turn place t a h shown)
+abbrev pub SeesTurn : {W : Type 0} → (W → List User → Shown → Type 0) → W → W → List User → ℕ → Turn → Answer → List Position → Going → Type 0
+SeesTurn Has old new users place t a from h = (shown : Shown) → Has old users shown → Has new users (with_turn place t a from h shown)
 
 -- one who sees the state in a place, and whether it is over
 pub record IsToldState {W : Type 0} (Has : W → List User → Shown → Type 0) (old new : W) (users : List User) (place : ℕ) (g : Going) : Type 0 where
@@ -130,8 +134,8 @@ pub record IsToldState {W : Type 0} (Has : W → List User → Shown → Type 0)
 pub record IsToldTurn {W : Type 0} (Has : W → List User → Shown → Type 0) (old new : W) (users : List User) (place : ℕ) (t : Turn) (g : Going) : Type 0 where
   pub answer : Answer
   pub going : Going
-  pub is : IsTurnFrom users g (record { place = place; turn = t; answer = answer; going = going })
-  pub sees : SeesTurn Has old new users place t answer going
+  pub is : IsTurnFrom users g (record { place = place; turn = t; answer = answer; from = g.places; going = going })
+  pub sees : SeesTurn Has old new users place t answer g.places going
 
 -- one to whom a turn more of these is reported, if the rule has it
 abbrev pub TellsOn : {W : Type 0} → (W → List User → Shown → Type 0) → W → W → List User → ℕ → Going → Turn → Type 0

@@ -15,6 +15,7 @@ use mcs_explore_search::System;
 use mcs_explore_walk::{OrdersFault, Picks, Turn, Users, Walk};
 use mcs_kernel::Boot;
 use mcs_queues::PlainLines;
+use mcs_turns::Position;
 use mcs_types::{Answer, OutOfMemory};
 use std::alloc::Global;
 use std::marker::Model;
@@ -42,18 +43,20 @@ pub trait Watch: Drop {
         ensures sees { OnOk result (SeesState HasSeen self.old self.new
             users.now place walk.now is_over) };
 
-    /// Sees a turn from the state in this place: its answer, and the state after it.
+    /// Sees a turn from the state in this place: its answer, how far the users were before it, and
+    /// the state after it.
     fn see_turn(
         &mut self,
         users: &Users,
         place: usize,
         turn: Turn,
         answer: &Answer,
+        from: &[Position],
         walk: &Walk<PlainLines>,
     ) -> Result<(), OrdersFault>
         ensures aim { aim self.new ≡ aim self.old }
         ensures sees { OnOk result (SeesTurn HasSeen self.old self.new
-            users.now place turn answer.now walk.now) };
+            users.now place turn answer.now from.now walk.now) };
 
     /// Returns whether the search goes on after a state was expanded.
     fn goes_on(&self) -> bool;
@@ -210,12 +213,13 @@ impl<'a, W: Watch> Explorer<'a, W> {
         ensures unseen { IfOk result (λ o. IfNone o (counting self.new ≡ counting self.old)) }
     {
         let mut walk = walk;
+        let from = Vec::from_slice(alloc, walk.places())?;
         let Some(answer) = walk.turn(alloc, self.users, picks, turn)? else {
             return Ok(None);
         };
         self.turns = self.turns.saturating_add(1);
         self.watch
-            .see_turn(self.users, place, turn, &answer, &walk)?;
+            .see_turn(self.users, place, turn, &answer, &from, &walk)?;
         let picks = walk.picks(alloc, self.users)?;
         let key = self.keys.key(self.users, &walk, &picks)?;
         self.trail.let_go(walk);

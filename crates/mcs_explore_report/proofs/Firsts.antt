@@ -2,6 +2,7 @@
 use Rattle.std.specs.Prelude.{ℕ, ◌≡◌, ◌++◌, ◌⊎◌, Bool, true, false, cond, List, [], ◌∷◌, Option, Some, None, length, slice_get}
 use Rattle.std.proofs.Common.{refl, ap, sym, ◌∙◌, subst, inl, inr, arith}
 use Rattle.mcs_types.specs.declared.entry.Answer.{Answer}
+use Rattle.mcs_turns.specs.declared.position.Position.{Position}
 use Rattle.mcs_turns.specs.declared.position.Pick.{Pick}
 use Rattle.mcs_turns.specs.Turns.{User, Going}
 use Rattle.mcs_explore_walk.specs.declared.walk.Turn.{Turn}
@@ -131,17 +132,17 @@ for-comes : (o : Option Pick) (t : Told) (old new : Tables) → IsNotedFor o t o
 for-comes None t old new same = same-comes old new t.place same
 for-comes (Some e) t old new noted = noted-comes e.user e.number t old new noted
 
-mail-comes : (users : List User) (g : Going) (place : ℕ) (t : Turn) (rs : List Reached) (old new : Tables) → AreNotedMail users g place t rs old new → Comes old new place
-mail-comes users g place t [] old new same = same-comes old new place same
-mail-comes users g place t (r ∷ rs) old new (mid, (one, rest)) =
-    comes-on old mid new place (for-grows (mailed_to users g t r) (record { answer = r.answer; place = place; turn = t }) old mid one) (for-comes (mailed_to users g t r) (record { answer = r.answer; place = place; turn = t }) old mid one)
-    (mail-comes users g place t rs mid new rest)
+mail-comes : (users : List User) (from : List Position) (place : ℕ) (t : Turn) (rs : List Reached) (old new : Tables) → AreNotedMail users from place t rs old new → Comes old new place
+mail-comes users from place t [] old new same = same-comes old new place same
+mail-comes users from place t (r ∷ rs) old new (mid, (one, rest)) =
+    comes-on old mid new place (for-grows (mailed_to users from t r) (record { answer = r.answer; place = place; turn = t }) old mid one) (for-comes (mailed_to users from t r) (record { answer = r.answer; place = place; turn = t }) old mid one)
+    (mail-comes users from place t rs mid new rest)
 
 module _ (users : List User) (turns : List Made) (m : Made) (old mid new : Tables) (own : IsNotedTurn (record { answer = m.answer; place = m.place; turn = m.turn }) old mid)
-    (mail : AreNotedMail users m.going m.place m.turn (brought m.going.book) mid new) (are : AreAnswersOf users turns old) (are_mail : AreMailOf users turns old) (first : AreFirstAnswers users turns old) where
+    (mail : AreNotedMail users m.from m.place m.turn (brought m.going.book) mid new) (are : AreAnswersOf users turns old) (are_mail : AreMailOf users turns old) (first : AreFirstAnswers users turns old) where
   comes : Comes old new m.place
   comes = comes-on old mid new m.place (turn-grows (record { answer = m.answer; place = m.place; turn = m.turn }) old mid own) (turn-comes (record { answer = m.answer; place = m.place; turn = m.turn }) old mid own)
-      (mail-comes users m.going m.place m.turn (brought m.going.book) mid new mail)
+      (mail-comes users m.from m.place m.turn (brought m.going.book) mid new mail)
 
   -- what a turn gave that was shown before was kept
   was-kept : (a b j : ℕ) (before : List Told) (n : Made) (x : Answer) → table_of old a b ≡ Some before → slice_get turns j ≡ Some n → HasGiven users n a b x → IsAmong before x
@@ -205,12 +206,12 @@ module _ (users : List User) (questions : List AskedLine) (shown : Shown) (place
       turns i j p t q m asks there fails_it None at is =
           let no = ap (λ (x : Sighting). x.turn) (new-failure (fails users q.asked None g) (record { place = place; turn = None }) (record { place = p; turn = Some t }) is) in absurd cc
 
-module _ (users : List User) (questions : List AskedLine) (shown : Shown) (place : ℕ) (u : Turn) (a : Answer) (h : Going) (before after : List (Option Sighting)) (by : AreJudgedBy users questions (record { place = place; turn = Some u }) h before after)
+module _ (users : List User) (questions : List AskedLine) (shown : Shown) (place : ℕ) (u : Turn) (a : Answer) (from : List Position) (h : Going) (before after : List (Option Sighting)) (by : AreJudgedBy users questions (record { place = place; turn = Some u }) h before after)
     (are : AreJudged users questions shown before) (first : AreFirstFailures users questions shown before) where
   abbrev made : Made
-  made = record { place = place; turn = u; answer = a; going = h }
+  made = record { place = place; turn = u; answer = a; from = from; going = h }
 
-  pub turn-failures : AreFirstFailures users questions (with_turn place u a h shown) after
+  pub turn-failures : AreFirstFailures users questions (with_turn place u a from h shown) after
   turn-failures = record {
     states = λ i j p q s asks at there fails_it.
         let w = was users questions shown (record { place = place; turn = Some u }) h before after by i q (record { place = p; turn = None }) asks at in

@@ -16,7 +16,7 @@ use Rattle.mcs_text.specs.Reading.{words_of}
 use Rattle.mcs_text.specs.Table.{answer_text}
 use Rattle.mcs_turns.specs.declared.position.Position.{Position}
 use Rattle.mcs_turns.specs.declared.position.Pick.{Pick}
-use Rattle.mcs_turns.specs.Turns.{User, Going, AreInRange, IsRun, IsTurn, current, entered, given, outcome}
+use Rattle.mcs_turns.specs.Turns.{User, Going, AreInRange, IsRun, IsTurn, entered, given, outcome}
 use Rattle.mcs_explore_equivalence.proofs.Asking.{status-same}
 use Rattle.mcs_explore_equivalence.specs.ButNumbers.{SameButNumbers}
 use Rattle.mcs_explore_equivalence.proofs.Likenesses.{by-likeness}
@@ -41,7 +41,7 @@ use Rattle.mcs_explore_report.specs.Found.{AreHeldInRuns, AreJudgedFound, IsHeld
 -- runs with the same statuses and places have the same users in spans
 module _ (users : List User) (g h : Going) (places : g.places ≡ h.places) (statuses : (t : ObjId) → status_of (log_of g.book) t ≡ status_of (log_of h.book) t) where
   abbrev within_at : Going → Span → Option User → ℕ → Bool
-  within_at x s o i = elim o [ None ↦ false | Some u ↦ elim (slice_get x.places i) [ None ↦ false | Some p ↦ is_within s (status_of (log_of x.book) u.thread) (current u p) ] ]
+  within_at x s o i = elim o [ None ↦ false | Some u ↦ elim (slice_get x.places i) [ None ↦ false | Some p ↦ is_within s (status_of (log_of x.book) u.thread) p ] ]
 
   abbrev is_of : Going → Span → Option ℕ → Bool
   is_of x s o = elim o [ None ↦ false | Some i ↦ within_at x s (slice_get users i) i ]
@@ -51,21 +51,21 @@ module _ (users : List User) (g h : Going) (places : g.places ≡ h.places) (sta
   within-same s (Some u) i = go (slice_get g.places i) (slice_get h.places i) (ap (λ (ps : List Position). slice_get ps i) places)
     where
       by : Option Status → Option Position → Bool
-      by st o = elim o [ None ↦ false | Some p ↦ is_within s st (current u p) ]
+      by st o = elim o [ None ↦ false | Some p ↦ is_within s st p ]
 
       go : (o p : Option Position) → o ≡ p → by (status_of (log_of g.book) u.thread) o ≡ by (status_of (log_of h.book) u.thread) p
       go o p e = ap (by (status_of (log_of g.book) u.thread)) e ∙ ap (λ st. by st p) (statuses u.thread)
 
   -- and as many entries of each user answered
   abbrev answered_at : Going → Option User → ℕ → ℕ
-  answered_at x o i = elim o [ None ↦ 0 | Some u ↦ elim (slice_get x.places i) [ None ↦ 0 | Some p ↦ answered_by (status_of (log_of x.book) u.thread) (current u p) ] ]
+  answered_at x o i = elim o [ None ↦ 0 | Some u ↦ elim (slice_get x.places i) [ None ↦ 0 | Some p ↦ answered_by (status_of (log_of x.book) u.thread) p ] ]
 
   pub answered-same : (o : Option User) (i : ℕ) → answered_at g o i ≡ answered_at h o i
   answered-same None i = refl
   answered-same (Some u) i = go (slice_get g.places i) (slice_get h.places i) (ap (λ (ps : List Position). slice_get ps i) places)
     where
       by : Option Status → Option Position → ℕ
-      by st o = elim o [ None ↦ 0 | Some p ↦ answered_by st (current u p) ]
+      by st o = elim o [ None ↦ 0 | Some p ↦ answered_by st p ]
 
       go : (o p : Option Position) → o ≡ p → by (status_of (log_of g.book) u.thread) o ≡ by (status_of (log_of h.book) u.thread) p
       go o p e = ap (by (status_of (log_of g.book) u.thread)) e ∙ ap (λ st. by st p) (statuses u.thread)

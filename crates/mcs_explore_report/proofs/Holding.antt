@@ -91,7 +91,7 @@ module _ (users : List User) (tables : Tables) where
 
 -- each answer is kept
 module _ (users : List User) (boot : Boot) (tables : Tables) (in_runs : AreAnswersInRuns users boot tables) where
-  kept : (user number n : ℕ) (t : Turn) (g h : Going) (a : Answer) → IsRun users boot n g → Leads users t g h → IsGiven users t h user number a → IsKeptOf tables user number a
+  kept : (user number n : ℕ) (t : Turn) (g h : Going) (a : Answer) → IsRun users boot n g → Leads users t g h → IsGiven users t g h user number a → IsKeptOf tables user number a
   kept user number n t g h a run turn (inl own) =
       subst (λ (i : ℕ). IsKeptOf tables i number a) own.0.user (subst (λ (m : ℕ). IsKeptOf tables t.pick.user m a) own.0.number (in_runs.own n t g h a run turn own.0.answer own.1))
   kept user number n t g h a run turn (inr mail) = in_runs.mail n t g h user number a run turn mail

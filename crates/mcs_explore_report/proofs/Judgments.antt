@@ -2,6 +2,7 @@
 use Rattle.std.specs.Prelude.{ℕ, zero, suc, ◌≡◌, ◌⊎◌, Bool, true, false, cond, replicate, List, [], ◌∷◌, Option, Some, None, length, slice_get}
 use Rattle.std.proofs.Common.{refl, ap, sym, ◌∙◌, subst, inl, inr, arith}
 use Rattle.std.proofs.lemmas.List.{length-replicate}
+use Rattle.mcs_turns.specs.declared.position.Position.{Position}
 use Rattle.mcs_turns.specs.Turns.{User, Going}
 use Rattle.mcs_types.specs.declared.entry.Answer.{Answer}
 use Rattle.mcs_explore_walk.specs.declared.walk.Turn.{Turn}
@@ -63,15 +64,15 @@ state-look users place g over shown = record {
     states q not_failed held j s (inr e) = ap (λ (x : Sight). fails users q None x.going) e.1 ∙ not_failed
 
 -- so is a turn
-pub turn-look : (users : List User) (place : ℕ) (t : Turn) (a : Answer) (h : Going) (shown : Shown) → IsLook users (record { place = place; turn = Some t }) h shown (with_turn place t a h shown)
-turn-look users place t a h shown = record {
+pub turn-look : (users : List User) (place : ℕ) (t : Turn) (a : Answer) (from : List Position) (h : Going) (shown : Shown) → IsLook users (record { place = place; turn = Some t }) h shown (with_turn place t a from h shown)
+turn-look users place t a from h shown = record {
   more = record { states = λ j s at. at; turns = λ j m at. at-old shown.turns (made ∷ []) j m at };
   is = record { number = length shown.turns; made = made; at = at-last shown.turns made; place = refl; turn = refl; going = refl };
   held = λ q not_failed held. record { states = held.states; turns = λ j m at. turns q not_failed held j m (at-split shown.turns made j m at) };
 }
   where
     made : Made
-    made = record { place = place; turn = t; answer = a; going = h }
+    made = record { place = place; turn = t; answer = a; from = from; going = h }
 
     turns : (q : Asked) → fails users q (Some t) h ≡ false → HasHeld users q shown → (j : ℕ) (m : Made) → (slice_get shown.turns j ≡ Some m) ⊎ ((j ≡ length shown.turns) × (m ≡ made)) → fails users q (Some m.turn) m.going ≡ false
     turns q not_failed held j m (inl before) = held.turns j m before

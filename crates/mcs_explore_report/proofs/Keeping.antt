@@ -5,13 +5,14 @@ use Rattle.std.proofs.Common.{refl, ap, sym, ◌∙◌, subst, inl, inr, arith}
 use Rattle.mcs_types.specs.declared.entry.Answer.{Answer}
 use Rattle.mcs_types.specs.declared.entry.Answer.TheVariants as answer
 use Rattle.mcs_book.specs.Boots.{Boot}
+use Rattle.mcs_turns.specs.declared.position.Position.{Position}
 use Rattle.mcs_turns.specs.Turns.{User, Going, IsOver, beginning}
 use Rattle.mcs_explore_search.specs.Paths.{Path}
 use Rattle.mcs_explore_search.specs.Search.{Entries, path_of, paths_below}
 use Rattle.mcs_explore_walk.specs.declared.walk.Turn.{Turn}
 use Rattle.mcs_explore_walk.specs.Walks.{last_answer}
 use Rattle.mcs_explore_orders.specs.Trails.{Leads}
-use Rattle.mcs_explore_orders.specs.Shown.{AreShown, Counting, HasCounted, HasSeenAll, Made, Shown, Sight, nothing, with_state, with_turn}
+use Rattle.mcs_explore_orders.specs.Shown.{AreShown, Counting, HasCounted, HasSeenAll, Made, Shown, Sight, nothing, with_state, with_turn, IsTurnOf}
 use Rattle.mcs_explore_orders.proofs.Paths.{path-one}
 use Rattle.mcs_explore_report.specs.declared.answers.Told.{Told}
 use Rattle.mcs_explore_questions.specs.declared.asking.Asked.{Asked}
@@ -52,24 +53,24 @@ kept-state (Ok x) users questions place g over old new tables failed after by no
 }
 
 -- a turn more
-pub kept-turn : {E : Type 0} (r : Result (Unit {0}) E) (users : List User) (questions : List AskedLine) (place : ℕ) (t : Turn) (a : Answer) (h : Going) (kinds : List Kind) (start mid after : Tables) (failed then : List (Option Sighting))
+pub kept-turn : {E : Type 0} (r : Result (Unit {0}) E) (users : List User) (questions : List AskedLine) (place : ℕ) (t : Turn) (a : Answer) (from : List Position) (h : Going) (kinds : List Kind) (start mid after : Tables) (failed then : List (Option Sighting))
     → AreJudgedBy users questions (record { place = place; turn = Some t }) h failed then → IsNotedTurn (record { answer = a; place = place; turn = t }) start mid
-    → (all : List Reached) → all ≡ brought h.book → OnOk r (AreNotedMail users h place t all mid after)
-    → OnOk r ((shown : Shown) → IsKept users questions shown kinds start failed → IsKept users questions (with_turn place t a h shown) kinds after then)
-kept-turn (Err e) users questions place t a h kinds start mid after failed then by noted all is noted_mail = noted_mail
-kept-turn (Ok x) users questions place t a h kinds start mid after failed then by noted all is noted_mail = λ shown kept.
-    let mail : AreNotedMail users h place t (brought h.book) mid after = subst (λ (rs : List Reached). AreNotedMail users h place t rs mid after) is noted_mail in
-    let m : Made = record { place = place; turn = t; answer = a; going = h } in
+    → (all : List Reached) → all ≡ brought h.book → OnOk r (AreNotedMail users from place t all mid after)
+    → OnOk r ((shown : Shown) → IsKept users questions shown kinds start failed → IsKept users questions (with_turn place t a from h shown) kinds after then)
+kept-turn (Err e) users questions place t a from h kinds start mid after failed then by noted all is noted_mail = noted_mail
+kept-turn (Ok x) users questions place t a from h kinds start mid after failed then by noted all is noted_mail = λ shown kept.
+    let mail : AreNotedMail users from place t (brought h.book) mid after = subst (λ (rs : List Reached). AreNotedMail users from place t rs mid after) is noted_mail in
+    let m : Made = record { place = place; turn = t; answer = a; from = from; going = h } in
     let own = turn-noted users shown.turns start mid m noted kept.answers in
     record {
       ends = kept.ends;
       answers = mail-told users (shown.turns ++ m ∷ []) (length shown.turns) m (at-last shown.turns m) (brought h.book) mid after (λ i r there. (i, there)) mail own;
       mail = mail-more users shown.turns m start mid after noted mail kept.mail;
-      judged = judged-more users questions (record { place = place; turn = Some t }) h shown (with_turn place t a h shown) (turn-look users place t a h shown) failed then by kept.judged;
+      judged = judged-more users questions (record { place = place; turn = Some t }) h shown (with_turn place t a from h shown) (turn-look users place t a from h shown) failed then by kept.judged;
       first = record {
         ends = kept.first.ends;
         answers = answers-first users shown.turns m start mid after noted mail kept.answers kept.mail kept.first.answers;
-        failures = turn-failures users questions shown place t a h failed then by kept.judged kept.first.failures;
+        failures = turn-failures users questions shown place t a from h failed then by kept.judged kept.first.failures;
       };
     }
 
@@ -109,6 +110,17 @@ paths-at found (suc n) i p at = go (at-split (paths_below found n) (path_of foun
     go : (slice_get (paths_below found n) i ≡ Some p) ⊎ ((i ≡ length (paths_below found n)) × (p ≡ path_of found n)) → (slice_get (paths_below found n) i ≡ Some p → (i < n) × (p ≡ path_of found i)) → (i < suc n) × (p ≡ path_of found i)
     go (inl h) before = let r = before h in let lt = r.0 in (omega (arith, lt), r.1)
     go (inr e) before = let is = e.0 ∙ paths-long found n in (omega (arith, is), e.1 ∙ ap (λ k. path_of found k) (sym is))
+
+-- the positions before a turn that was shown are those of the state from which it leads
+pub made-from : {K : Type 0} (users : List User) (boot : Boot) (found : Entries K Turn) (done place : ℕ) (g : Going) (m : Made) → place < done → IsAt users boot found place g → m.place ≡ place → IsTurnOf users (beginning users boot) (paths_below found done) m → m.from ≡ g.places
+made-from users boot found done place g m lt at here is =
+    let path : is.path ≡ path_of found place = some-same is.path (path_of found place) (sym is.at ∙ ap (λ (k : ℕ). slice_get (paths_below found done) k) here ∙ at-paths found done place lt) in
+    is.turn.from ∙ ap (λ (x : Going). x.places) (path-one users (beginning users boot) (path_of found place) is.state g (subst (λ ls. Path (Leads users) (beginning users boot) ls is.state) path is.leads) at)
+
+-- what such a turn brought
+mail-of : (users : List User) (m : Made) (t : Turn) (from : List Position) (h : Going) (user number : ℕ) (a : Answer) → m.from ≡ from → m.turn ≡ t → m.going ≡ h → IsMailed users from h user number t a → IsMailed users m.from m.going user number m.turn a
+mail-of users m t from h user number a same turn going mail =
+    subst (λ (ps : List Position). IsMailed users ps m.going user number m.turn a) (sym same) (subst (λ (x : Going). IsMailed users from x user number m.turn a) (sym going) (subst (λ (u : Turn). IsMailed users from h user number u a) (sym turn) mail))
 
 -- what is found of all that is kept
 pub record AreFound {K : Type 0} (users : List User) (boot : Boot) (found : Entries K Turn) (done : ℕ) (questions : List AskedLine) (kinds : List Kind) (tables : Tables) (failed : List (Option Sighting)) : Type 0 where
@@ -166,17 +178,17 @@ module _ {K : Type 0} (users : List User) (boot : Boot) (found : Entries K Turn)
             going = a.made.going;
             at = subst (λ ls. Path (Leads users) (beginning users boot) ls m.state) (p.1 ∙ ap (λ n. path_of found n) a.place) m.leads;
             turn = subst (λ u. Leads users u m.state a.made.going) a.turn m.turn.leads;
-            is = is a m.turn.answer a.is;
+            is = subst (λ (ps : List Position). IsAnswered t.turn a.made.going user number t.answer ⊎ IsMailed users ps a.made.going user number t.turn t.answer) m.turn.from (is a m.turn.answer a.is);
           }
         where
-          is : (a : IsAnswerOf users shown.turns user number t) → last_answer a.made.going.book ≡ Some a.made.answer → IsOwnAnswer a.made user number t.answer ⊎ IsMailed users a.made.going user number a.made.turn t.answer
-              → IsAnswered t.turn a.made.going user number t.answer ⊎ IsMailed users a.made.going user number t.turn t.answer
+          is : (a : IsAnswerOf users shown.turns user number t) → last_answer a.made.going.book ≡ Some a.made.answer → IsOwnAnswer a.made user number t.answer ⊎ IsMailed users a.made.from a.made.going user number a.made.turn t.answer
+              → IsAnswered t.turn a.made.going user number t.answer ⊎ IsMailed users a.made.from a.made.going user number t.turn t.answer
           is a told (inl own) = inl (record {
             user = ap (λ (u : Turn). u.pick.user) (sym a.turn) ∙ own.user;
             number = ap (λ (u : Turn). u.pick.number) (sym a.turn) ∙ own.number;
             answer = told ∙ ap (λ x. Some x) own.answer;
           })
-          is a told (inr mail) = inr (subst (λ u. IsMailed users a.made.going user number u t.answer) a.turn mail)
+          is a told (inr mail) = inr (subst (λ u. IsMailed users a.made.from a.made.going user number u t.answer) a.turn mail)
 
       all : (place : ℕ) (t : Turn) (g h : Going) (a : Answer) (told : List Told) → place < done → IsAt users boot found place g → Leads users t g h → last_answer h.book ≡ Some a → (a ≡ answer.Waits → ⊥)
           → table_of tables t.pick.user t.pick.number ≡ Some told → IsAmong told a
@@ -189,8 +201,8 @@ module _ {K : Type 0} (users : List User) (boot : Boot) (found : Entries K Turn)
   mail-found : IsMailFound users boot found done tables
   mail-found = λ place t g h user number a told lt at step mail there.
       let s = are.all place (path_of found place) g h t (at-paths found done place lt) at step in
-      kept.mail s.number s.made user number a told s.at
-      (subst (λ x. IsMailed users x user number s.made.turn a) (sym s.going) (subst (λ u. IsMailed users h user number u a) (sym s.turn) mail)) there
+      let from = made-from users boot found done place g s.made lt at s.place (are.turns s.number s.made s.at) in
+      kept.mail s.number s.made user number a told s.at (mail-of users s.made t g.places h user number a from s.turn s.going mail) there
 
   -- a question failed in a state that was found, or by a turn from one
   judged-found : AreJudgedFound users boot found done questions failed
@@ -260,16 +272,16 @@ module _ {K : Type 0} (users : List User) (boot : Boot) (found : Entries K Turn)
           state-low k.place place (kept.first.ends i place k s.0 at s.1.0 is_over (ap (λ x. standings users x) s.1.1 ∙ stands))
 
       first_answer : (user number i place : ℕ) (told : List Told) (t : Told) (u : Turn) (g h : Going) → table_of tables user number ≡ Some told → slice_get told i ≡ Some t → place < done → IsAt users boot found place g → Leads users u g h
-          → IsGiven users u h user number t.answer → t.place ≤ place
+          → IsGiven users u g h user number t.answer → t.place ≤ place
       first_answer user number i place told t u g h at there lt is leads given =
           let s = are.all place (path_of found place) g h u (at-paths found done place lt) is leads in
           let m = are.turns s.number s.made s.at in
-          let low = turn-low t.place s.number s.made s.at (kept.first.answers user number i s.number told t s.made at there s.at (gave s.made s.turn s.going m.turn.answer given)) in
+          let low = turn-low t.place s.number s.made s.at (kept.first.answers user number i s.number told t s.made at there s.at (gave s.made (made-from users boot found done place g s.made lt is s.place m) s.turn s.going m.turn.answer given)) in
           let here = s.place in
           omega (arith, low, here)
         where
-          gave : (n : Made) → n.turn ≡ u → n.going ≡ h → last_answer n.going.book ≡ Some n.answer → IsGiven users u h user number t.answer → HasGiven users n user number t.answer
-          gave n turn going answered (inl own) = inl (
+          gave : (n : Made) → n.from ≡ g.places → n.turn ≡ u → n.going ≡ h → last_answer n.going.book ≡ Some n.answer → IsGiven users u g h user number t.answer → HasGiven users n user number t.answer
+          gave n from turn going answered (inl own) = inl (
             record {
               user = ap (λ (v : Turn). v.pick.user) turn ∙ own.0.user;
               number = ap (λ (v : Turn). v.pick.number) turn ∙ own.0.number;
@@ -277,7 +289,7 @@ module _ {K : Type 0} (users : List User) (boot : Boot) (found : Entries K Turn)
             },
             own.1,
           )
-          gave n turn going answered (inr mail) = inr (subst (λ x. IsMailed users x user number n.turn t.answer) (sym going) (subst (λ v. IsMailed users h user number v t.answer) (sym turn) mail))
+          gave n from turn going answered (inr mail) = inr (mail-of users n u g.places h user number t.answer from turn going mail)
 
       first_failure : (i place : ℕ) (q : AskedLine) (seen : Sighting) (t : Option Turn) (g h : Going) → slice_get questions i ≡ Some q → slice_get failed i ≡ Some (Some seen) → place < done → IsAt users boot found place g → IsSeenFrom users g t h
           → fails users q.asked t h ≡ true → seen.place ≤ place

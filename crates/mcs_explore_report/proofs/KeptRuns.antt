@@ -27,9 +27,9 @@ use Rattle.mcs_explore_orders.specs.Trails.{Leads}
 use Rattle.mcs_explore_report.specs.declared.ends.Standing.{Standing}
 use Rattle.mcs_explore_report.specs.Standings.{listed, standing_by, standing_of, standings, standings_below}
 use Rattle.mcs_explore_report.specs.Ends.{IsKindAt, Kind}
-use Rattle.mcs_explore_report.specs.Answers.{IsMailed, Tables, mailed_to}
+use Rattle.mcs_explore_report.specs.Answers.{IsMailed, Tables}
 use Rattle.mcs_explore_report.specs.Found.{AreAnswersFound, AreAnswersInRuns, AreEndsFound, AreEndsInRuns, IsKeptOf, IsMailFound}
-use Rattle.mcs_explore_report.proofs.HeldRuns.{there, places-same, same, then_g, then_h}
+use Rattle.mcs_explore_report.proofs.HeldRuns.{there, same, then_g, then_h}
 use Rattle.mcs_explore_report.proofs.Waiting.{mailed-entry}
 
 -- in runs with the same statuses and places the users stand so too
@@ -57,10 +57,6 @@ module _ (users : List User) (g h : Going) (places : g.places ≡ h.places) (sta
   pub standings-same : standings users g ≡ standings users h
   standings-same = below-same (length users)
 
--- with the same places, what reached a thread comes to the same entry
-mailed-same : (users : List User) (g h : Going) → g.places ≡ h.places → (t : Turn) (r : Reached) → mailed_to users g t r ≡ mailed_to users h t r
-mailed-same users g h places t r = ap (λ (ps : List Position). mailed_to users (record g { places = ps }) t r) places
-
 -- alike runs: the same turn is answered the same in both, and brings the same
 module _ (numbered : Bool) (users : List User) (boot : Boot) (whole : IsFaultless boot) (range : AreInRange users) (g h : Going) (a : AreAlike numbered users boot g h) (core : CoreId) (k : Pick) (t : Going) (turn : IsTurn users core k g t) where
   abbrev left : Going
@@ -78,15 +74,15 @@ module _ (numbered : Bool) (users : List User) (boot : Boot) (whole : IsFaultles
   pub answered-there : (x : Answer) → last_answer t.book ≡ Some x → last_answer right.book ≡ Some x
   answered-there x is = sym answer-same ∙ ap (λ (y : Going). last_answer y.book) (sym turn.after) ∙ is
 
-  pub mailed-there : (user number : ℕ) (u : Turn) (x : Answer) → IsMailed users t user number u x → IsMailed users right user number u x
-  mailed-there user number u x mail = go (subst (λ (y : Going). IsMailed users y user number u x) turn.after mail)
+  pub mailed-there : (user number : ℕ) (u : Turn) (x : Answer) → IsMailed users g.places t user number u x → IsMailed users h.places right user number u x
+  mailed-there user number u x mail = subst (λ (ps : List Position). IsMailed users ps right user number u x) a.close.places (go (subst (λ (y : Going). IsMailed users g.places y user number u x) turn.after mail))
     where
-      go : IsMailed users left user number u x → IsMailed users right user number u x
+      go : IsMailed users g.places left user number u x → IsMailed users g.places right user number u x
       go m = record {
         index = m.index;
         reached = m.reached;
         at = ap (λ (rs : List Reached). slice_get rs m.index) (sym brought-same) ∙ m.at;
-        to = sym (mailed-same users left right (places-same numbered users boot whole range g h a core k t turn) u m.reached) ∙ m.to;
+        to = m.to;
         answer = m.answer;
       }
 
@@ -114,11 +110,11 @@ module _ {K : Type 0} (numbered : Bool) (users : List User) (boot : Boot) (whole
                 (answered-there numbered users boot whole range g s.going s.like t.core t.pick h turn a answered) not table.1;
           }
 
-      brings : (n : ℕ) (t : Turn) (g h : Going) (user number : ℕ) (a : Answer) → IsRun users boot n g → Leads users t g h → IsMailed users h user number t a → IsKeptOf tables user number a
+      brings : (n : ℕ) (t : Turn) (g h : Going) (user number : ℕ) (a : Answer) → IsRun users boot n g → Leads users t g h → IsMailed users g.places h user number t a → IsKeptOf tables user number a
       brings n t g h user number a run turn it =
           let s = seen n g run in
           let within = s.within in
-          let table = answers.entries user number (mailed-entry users boot (suc n) h user number t a (g, (run, record { core = t.core; pick = t.pick; turn = turn })) it) in
+          let table = answers.entries user number (mailed-entry users boot n g h user number t a run it) in
           record {
             told = table.0;
             at = table.1;

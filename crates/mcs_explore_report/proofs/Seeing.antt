@@ -3,6 +3,7 @@ use Rattle.std.specs.Prelude.{ℕ, ◌≡◌, Bool, List, [], Option, Some, None
 use Rattle.std.specs.Result.{OnOk}
 use Rattle.std.proofs.Common.{sym, subst}
 use Rattle.mcs_types.specs.declared.entry.Answer.{Answer}
+use Rattle.mcs_turns.specs.declared.position.Position.{Position}
 use Rattle.mcs_turns.specs.Turns.{User, Going}
 use Rattle.mcs_explore_walk.specs.declared.walk.Turn.{Turn}
 use Rattle.mcs_explore_orders.specs.Shown.{Shown, nothing, with_state, with_turn}
@@ -35,15 +36,15 @@ sees-state {E} (Ok x) users questions lives later place g over old new tables fa
     ok = Ok x
 
 -- a turn more
-pub sees-turn : {E : Type 0} (r : Result (Unit {0}) E) (users : List User) (questions : List AskedLine) (lives later : List Live) (place : ℕ) (t : Turn) (a : Answer) (h : Going) (kinds : List Kind) (start mid after : Tables) (failed then : List (Option Sighting)) (notes noted : List Noted)
+pub sees-turn : {E : Type 0} (r : Result (Unit {0}) E) (users : List User) (questions : List AskedLine) (lives later : List Live) (place : ℕ) (t : Turn) (a : Answer) (from : List Position) (h : Going) (kinds : List Kind) (start mid after : Tables) (failed then : List (Option Sighting)) (notes noted : List Noted)
     → AreJudgedBy users questions (record { place = place; turn = Some t }) h failed then → IsNotedTurn (record { answer = a; place = place; turn = t }) start mid
-    → (all : List Reached) → all ≡ brought h.book → AreNotedMail users h place t all mid after
-    → later ≡ lives → OnOk r (AreNotedOn (with_made users place t a h) lives notes noted)
-    → OnOk r ((shown : Shown) → HasKept users questions lives shown kinds start failed notes → HasKept users questions later (with_turn place t a h shown) kinds after then noted)
-sees-turn (Err e) users questions lives later place t a h kinds start mid after failed then notes noted by own all is mail same on = on
-sees-turn {E} (Ok x) users questions lives later place t a h kinds start mid after failed then notes noted by own all is mail same on = λ shown has. record {
-  kept = kept-turn ok users questions place t a h kinds start mid after failed then by own all is mail shown has.kept;
-  noted = subst (λ (ls : List Live). AreNotedBy users ls (with_turn place t a h shown) noted) (sym same) (noted-turn users lives place t a h shown notes noted on has.noted);
+    → (all : List Reached) → all ≡ brought h.book → AreNotedMail users from place t all mid after
+    → later ≡ lives → OnOk r (AreNotedOn (with_made users place t a from all) lives notes noted)
+    → OnOk r ((shown : Shown) → HasKept users questions lives shown kinds start failed notes → HasKept users questions later (with_turn place t a from h shown) kinds after then noted)
+sees-turn (Err e) users questions lives later place t a from h kinds start mid after failed then notes noted by own all is mail same on = on
+sees-turn {E} (Ok x) users questions lives later place t a from h kinds start mid after failed then notes noted by own all is mail same on = λ shown has. record {
+  kept = kept-turn ok users questions place t a from h kinds start mid after failed then by own all is mail shown has.kept;
+  noted = subst (λ (ls : List Live). AreNotedBy users ls (with_turn place t a from h shown) noted) (sym same) (noted-turn users lives place t a from h shown notes noted (subst (λ (rs : List Reached). AreNotedOn (with_made users place t a from rs) lives notes noted) is on) has.noted);
 }
   where
     ok : Result (Unit {0}) E

@@ -30,7 +30,7 @@ use Rattle.mcs_explore_report.specs.Found.{IsAt}
 use Rattle.mcs_explore_report.specs.Stuck.{AreDecided, AreNotedBy, AreNotedOn, AreStuckUnled, IsFirstUnled, IsLive, IsNear, IsNotedBy, IsStuckFirst, Noted, answers, answers_last, first_marks, is_about, is_mailed, is_settled, is_waits, settled_by, with_made, with_mark, with_marks, with_sight}
 use Rattle.mcs_turns.specs.Mail.{brought}
 use Rattle.mcs_explore_report.proofs.HeldRuns.{answered-same, places-same, same, step, then_g, then_h, there}
-use Rattle.mcs_explore_report.proofs.Keeping.{at-paths, paths-long}
+use Rattle.mcs_explore_report.proofs.Keeping.{at-paths, paths-long, made-from}
 use Rattle.mcs_explore_report.proofs.KeptRuns.{brought-same}
 use Rattle.mcs_explore_report.proofs.Lists.{at-within, from-on, some-same, within-at}
 
@@ -180,11 +180,11 @@ module _ (numbered : Bool) (users : List User) (boot : Boot) (whole : IsFaultles
       (answered-same users g h a.close.places (λ t. status-same (log_of g.book) (log_of h.book) ((by-likeness numbered).numbers (log_of g.book) (log_of h.book) a.close.logs) t) (slice_get users l.user) l.user)
 
   last-same : (g h : Going) (a : AreAlike numbered users boot g h) (t : Turn) (k : Going) (turn : IsTurn users t.core t.pick g k)
-      → answers_last users l t (then_g numbered users boot whole range g h a t.core t.pick k turn) ≡ answers_last users l t (then_h numbered users boot whole range g h a t.core t.pick k turn)
+      → answers_last users l t g (then_g numbered users boot whole range g h a t.core t.pick k turn) ≡ answers_last users l t h (then_h numbered users boot whole range g h a t.core t.pick k turn)
   last-same g h a t k turn =
-      ap (λ (x : Answer). (is_about l t.pick && not (is_waits x)) || list_any (is_mailed users left t l) (brought left.book)) (same numbered users boot whole range g h a t.core t.pick k turn).answer
-      ∙ ap (λ (ps : List Position). (is_about l t.pick && not (is_waits there_answer)) || list_any (is_mailed users (record left { places = ps }) t l) (brought left.book)) (places-same numbered users boot whole range g h a t.core t.pick k turn)
-      ∙ ap (λ (rs : List Reached). (is_about l t.pick && not (is_waits there_answer)) || list_any (is_mailed users right t l) rs) (brought-same numbered users boot whole range g h a t.core t.pick k turn)
+      ap (λ (x : Answer). answers users l t x g.places (brought left.book)) (same numbered users boot whole range g h a t.core t.pick k turn).answer
+      ∙ ap (λ (ps : List Position). answers users l t there_answer ps (brought left.book)) a.close.places
+      ∙ ap (λ (rs : List Reached). answers users l t there_answer h.places rs) (brought-same numbered users boot whole range g h a t.core t.pick k turn)
     where
       left : Going
       left = then_g numbered users boot whole range g h a t.core t.pick k turn
@@ -203,7 +203,7 @@ module _ (numbered : Bool) (users : List User) (boot : Boot) (whole : IsFaultles
       then_h numbered users boot whole range g h a it.0.core it.0.pick it.1.0 it.1.1.0,
       (
         there numbered users boot whole range g h a it.0.core it.0.pick it.1.0 it.1.1.0,
-        sym (last-same g h a it.0 it.1.0 it.1.1.0) ∙ ap (λ (x : Going). answers_last users l it.0 x) (sym it.1.1.0.after) ∙ it.1.1.1,
+        sym (last-same g h a it.0 it.1.0 it.1.1.0) ∙ ap (λ (x : Going). answers_last users l it.0 g x) (sym it.1.1.0.after) ∙ it.1.1.1,
       ),
     ),
   )
@@ -273,10 +273,11 @@ module _ {K : Type 0} (numbered : Bool) (users : List User) (boot : Boot) (whole
   near-below i g lt below at (inr it) =
       let m = are.all i (path_of found i) g it.1.0 it.0 (at-paths found done i below) at it.1.1.0 in
       let made = are.turns m.number m.made m.at in
-      let is : answers users l m.made.turn m.made.answer m.made.going ≡ true =
-      ap (λ (x : Option Answer). elim x [ None ↦ false | Some a ↦ answers users l m.made.turn a m.made.going ]) (sym made.turn.answer)
-      ∙ ap (λ (t : Turn). answers_last users l t m.made.going) m.turn ∙ ap (λ (x : Going). answers_last users l it.0 x) m.going ∙ it.1.1.1 in
-      let j = flat-has (λ (x : Made). answers users l x.turn x.answer x.going) (λ (x : Made). x.place) shown.turns m.number m.made m.at is in
+      let is : answers users l m.made.turn m.made.answer m.made.from (brought m.made.going.book) ≡ true =
+      ap (λ (ps : List Position). answers users l m.made.turn m.made.answer ps (brought m.made.going.book)) (made-from users boot found done i g m.made below at m.place made)
+      ∙ ap (λ (x : Option Answer). elim x [ None ↦ false | Some a ↦ answers users l m.made.turn a g.places (brought m.made.going.book) ]) (sym made.turn.answer)
+      ∙ ap (λ (t : Turn). answers_last users l t g m.made.going) m.turn ∙ ap (λ (x : Going). answers_last users l it.0 g x) m.going ∙ it.1.1.1 in
+      let j = flat-has (λ (x : Made). answers users l x.turn x.answer x.from (brought x.going.book)) (λ (x : Made). x.place) shown.turns m.number m.made m.at is in
       has-mark n.answered base j.0 i (ap (λ (ps : List ℕ). slice_get ps j.0) noted.answered ∙ j.1 ∙ ap (λ (k : ℕ). Some k) m.place) (subst (λ k. i < k) (sym base-long) lt)
 
   near-marked : (i : ℕ) (g : Going) → i < length found → IsAt users boot found i g → IsNear users l g → is_marked marks i ≡ true
@@ -286,7 +287,7 @@ module _ {K : Type 0} (numbered : Bool) (users : List User) (boot : Boot) (whole
       go (inl below) = near-below i g lt below at near
       go (inr beyond) = old-marks n.answered base i (base-beyond i lt beyond)
 
-  made-near : (i : ℕ) (g : Going) → i < done → IsAt users boot found i g → IsPicked (λ (x : Made). answers users l x.turn x.answer x.going) (λ (x : Made). x.place) shown.turns i → IsNear users l g
+  made-near : (i : ℕ) (g : Going) → i < done → IsAt users boot found i g → IsPicked (λ (x : Made). answers users l x.turn x.answer x.from (brought x.going.book)) (λ (x : Made). x.place) shown.turns i → IsNear users l g
   made-near i g below at m =
       let made = are.turns m.number m.one m.at in
       let path : made.path ≡ path_of found i = some-same made.path (path_of found i) (sym made.at ∙ ap (λ (k : ℕ). slice_get (paths_below found done) k) m.place_is ∙ at-paths found done i below) in
@@ -297,7 +298,8 @@ module _ {K : Type 0} (numbered : Bool) (users : List User) (boot : Boot) (whole
           m.one.going,
           (
             subst (λ (x : Going). Leads users m.one.turn x m.one.going) going made.turn.leads,
-            ap (λ (x : Option Answer). elim x [ None ↦ false | Some a ↦ answers users l m.one.turn a m.one.going ]) made.turn.answer ∙ m.is,
+            ap (λ (x : Option Answer). elim x [ None ↦ false | Some a ↦ answers users l m.one.turn a g.places (brought m.one.going.book) ]) made.turn.answer
+            ∙ ap (λ (ps : List Position). answers users l m.one.turn m.one.answer ps (brought m.one.going.book)) (sym (made.turn.from ∙ ap (λ (x : Going). x.places) going)) ∙ m.is,
           ),
         ),
       )
@@ -307,7 +309,7 @@ module _ {K : Type 0} (numbered : Bool) (users : List User) (boot : Boot) (whole
     where
       go : (is_marked base i ≡ true) ⊎ ((j : ℕ) × (slice_get n.answered j ≡ Some i)) → IsNear users l g
       go (inl old) = inl (sym (state-at i g lt below at) ∙ old)
-      go (inr it) = made-near i g below at (flat-from (λ (x : Made). answers users l x.turn x.answer x.going) (λ (x : Made). x.place) shown.turns it.0 i (ap (λ (ps : List ℕ). slice_get ps it.0) (sym noted.answered) ∙ it.1))
+      go (inr it) = made-near i g below at (flat-from (λ (x : Made). answers users l x.turn x.answer x.from (brought x.going.book)) (λ (x : Made). x.place) shown.turns it.0 i (ap (λ (ps : List ℕ). slice_get ps it.0) (sym noted.answered) ∙ it.1))
 
   -- the state of a place is that of its visit
   state-is : (i : ℕ) (g h : Going) → slice_get graph.states i ≡ Some g → IsAt users boot found i h → g ≡ h
@@ -406,11 +408,11 @@ noted-state users lives place g over shown old new = noted-on users lives (with_
 })
 
 -- a turn more
-pub noted-turn : (users : List User) (lives : List Live) (place : ℕ) (t : Turn) (a : Answer) (h : Going) (shown : Shown) (old new : List Noted) → AreNotedOn (with_made users place t a h) lives old new → AreNotedBy users lives shown old
-    → AreNotedBy users lives (with_turn place t a h shown) new
-noted-turn users lives place t a h shown old new = noted-on users lives (with_made users place t a h) old new shown (with_turn place t a h shown) (λ l n is. record {
+pub noted-turn : (users : List User) (lives : List Live) (place : ℕ) (t : Turn) (a : Answer) (from : List Position) (h : Going) (shown : Shown) (old new : List Noted) → AreNotedOn (with_made users place t a from (brought h.book)) lives old new → AreNotedBy users lives shown old
+    → AreNotedBy users lives (with_turn place t a from h shown) new
+noted-turn users lives place t a from h shown old new = noted-on users lives (with_made users place t a from (brought h.book)) old new shown (with_turn place t a from h shown) (λ l n is. record {
   settled = is.settled;
-  answered = ap (λ (ps : List ℕ). ps ++ cond (answers users l t a h) (place ∷ []) []) is.answered ∙ flat-last (λ (m : Made). cond (answers users l m.turn m.answer m.going) (m.place ∷ []) []) shown.turns (record { place = place; turn = t; answer = a; going = h });
+  answered = ap (λ (ps : List ℕ). ps ++ cond (answers users l t a from (brought h.book)) (place ∷ []) []) is.answered ∙ flat-last (λ (m : Made). cond (answers users l m.turn m.answer m.from (brought m.going.book)) (m.place ∷ []) []) shown.turns (record { place = place; turn = t; answer = a; from = from; going = h });
 })
   where
     nil : {A : Type 0} (xs : List A) → xs ≡ xs ++ []

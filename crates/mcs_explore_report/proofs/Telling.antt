@@ -7,6 +7,7 @@ use Rattle.mcs_types.specs.declared.entry.Answer.{Answer}
 use Rattle.mcs_types.specs.declared.entry.Answer.TheVariants as answer
 use Rattle.mcs_types.specs.declared.entry.Entry.{Entry}
 use Rattle.mcs_book.specs.History.{Book, Line, line_of_number}
+use Rattle.mcs_turns.specs.declared.position.Position.{Position}
 use Rattle.mcs_turns.specs.declared.position.Pick.{Pick}
 use Rattle.mcs_turns.specs.Turns.{User, Going}
 use Rattle.mcs_explore_walk.specs.declared.walk.Turn.{Turn}
@@ -266,54 +267,54 @@ for-has : (o : Option Pick) (user number : ℕ) (t : Told) (old new : Tables) (t
 for-has o user number t old new told is noted there = among-noted user number t old new (subst (λ (p : Option Pick). IsNotedFor p t old new) is noted) told there
 
 -- what a turn brought to an entry that waited was noted
-module _ (users : List User) (g : Going) (place : ℕ) (t : Turn) where
-  pub mail-grows : (rs : List Reached) (old new : Tables) → AreNotedMail users g place t rs old new → Grows old new
+module _ (users : List User) (from : List Position) (place : ℕ) (t : Turn) where
+  pub mail-grows : (rs : List Reached) (old new : Tables) → AreNotedMail users from place t rs old new → Grows old new
   mail-grows [] old new same = same-grows old new same
-  mail-grows (r ∷ rs) old new (mid, (one, rest)) = grows-on old mid new (for-grows (mailed_to users g t r) (record { answer = r.answer; place = place; turn = t }) old mid one) (mail-grows rs mid new rest)
+  mail-grows (r ∷ rs) old new (mid, (one, rest)) = grows-on old mid new (for-grows (mailed_to users from t r) (record { answer = r.answer; place = place; turn = t }) old mid one) (mail-grows rs mid new rest)
 
-  mail-has : (rs : List Reached) (i : ℕ) (r : Reached) (user number : ℕ) (told : List Told) (old new : Tables) → slice_get rs i ≡ Some r → mailed_to users g t r ≡ Some (record { user = user; number = number }) → AreNotedMail users g place t rs old new
+  mail-has : (rs : List Reached) (i : ℕ) (r : Reached) (user number : ℕ) (told : List Told) (old new : Tables) → slice_get rs i ≡ Some r → mailed_to users from t r ≡ Some (record { user = user; number = number }) → AreNotedMail users from place t rs old new
       → table_of new user number ≡ Some told → IsAmong told r.answer
   mail-has [] i r user number told old new at to noted there = absurd cc
   mail-has (x ∷ rs) zero r user number told old new at to (mid, (one, rest)) there =
       let same : x ≡ r = some-same x r at in
-      let here : IsNotedFor (mailed_to users g t r) (record { answer = r.answer; place = place; turn = t }) old mid = subst (λ (y : Reached). IsNotedMail users g place t y old mid) same one in
-      mail-grows rs mid new rest user number told r.answer there (λ ts was. for-has (mailed_to users g t r) user number (record { answer = r.answer; place = place; turn = t }) old mid ts to here was)
+      let here : IsNotedFor (mailed_to users from t r) (record { answer = r.answer; place = place; turn = t }) old mid = subst (λ (y : Reached). IsNotedMail users from place t y old mid) same one in
+      mail-grows rs mid new rest user number told r.answer there (λ ts was. for-has (mailed_to users from t r) user number (record { answer = r.answer; place = place; turn = t }) old mid ts to here was)
   mail-has (x ∷ rs) (suc i) r user number told old new at to (mid, (one, rest)) there = mail-has rs i r user number told mid new at to rest there
 
 -- all that a turn more brought is there, and all that was is
-pub mail-more : (users : List User) (turns : List Made) (m : Made) (old mid new : Tables) → IsNotedTurn (record { answer = m.answer; place = m.place; turn = m.turn }) old mid → AreNotedMail users m.going m.place m.turn (brought m.going.book) mid new
+pub mail-more : (users : List User) (turns : List Made) (m : Made) (old mid new : Tables) → IsNotedTurn (record { answer = m.answer; place = m.place; turn = m.turn }) old mid → AreNotedMail users m.from m.place m.turn (brought m.going.book) mid new
     → AreMailOf users turns old → AreMailOf users (turns ++ m ∷ []) new
 mail-more users turns m old mid new own noted are = λ j n user number a told at mail there. go j n user number a told mail there (at-split turns m j n at)
   where
     grows : Grows old new
-    grows = grows-on old mid new (turn-grows (record { answer = m.answer; place = m.place; turn = m.turn }) old mid own) (mail-grows users m.going m.place m.turn (brought m.going.book) mid new noted)
+    grows = grows-on old mid new (turn-grows (record { answer = m.answer; place = m.place; turn = m.turn }) old mid own) (mail-grows users m.from m.place m.turn (brought m.going.book) mid new noted)
 
-    mine : (user number : ℕ) (a : Answer) (told : List Told) → IsMailed users m.going user number m.turn a → table_of new user number ≡ Some told → IsAmong told a
+    mine : (user number : ℕ) (a : Answer) (told : List Told) → IsMailed users m.from m.going user number m.turn a → table_of new user number ≡ Some told → IsAmong told a
     mine user number a told mail there =
-        subst (λ x. IsAmong told x) mail.answer (mail-has users m.going m.place m.turn (brought m.going.book) mail.index mail.reached user number told mid new mail.at mail.to noted there)
+        subst (λ x. IsAmong told x) mail.answer (mail-has users m.from m.place m.turn (brought m.going.book) mail.index mail.reached user number told mid new mail.at mail.to noted there)
 
-    go : (j : ℕ) (n : Made) (user number : ℕ) (a : Answer) (told : List Told) → IsMailed users n.going user number n.turn a → table_of new user number ≡ Some told → (slice_get turns j ≡ Some n) ⊎ ((j ≡ length turns) × (n ≡ m)) → IsAmong told a
+    go : (j : ℕ) (n : Made) (user number : ℕ) (a : Answer) (told : List Told) → IsMailed users n.from n.going user number n.turn a → table_of new user number ≡ Some told → (slice_get turns j ≡ Some n) ⊎ ((j ≡ length turns) × (n ≡ m)) → IsAmong told a
     go j n user number a told mail there (inl h) = grows user number told a there (λ ts was. are j n user number a ts h mail was)
-    go j n user number a told mail there (inr e) = mine user number a told (subst (λ (x : Made). IsMailed users x.going user number x.turn a) e.1 mail) there
+    go j n user number a told mail there (inr e) = mine user number a told (subst (λ (x : Made). IsMailed users x.from x.going user number x.turn a) e.1 mail) there
 
 pub no-mail : (users : List User) (tables : Tables) → AreMailOf users [] tables
 no-mail users tables = λ j m user number a told at. absurd cc
 
 -- and each answer that was noted so came by it
 module _ (users : List User) (turns : List Made) (j : ℕ) (m : Made) (at : slice_get turns j ≡ Some m) where
-  one-told : (r : Reached) (i : ℕ) (old new : Tables) → slice_get (brought m.going.book) i ≡ Some r → IsNotedMail users m.going m.place m.turn r old new → AreAnswersOf users turns old → AreAnswersOf users turns new
-  one-told r i old new there noted are = go (mailed_to users m.going m.turn r) refl noted
+  one-told : (r : Reached) (i : ℕ) (old new : Tables) → slice_get (brought m.going.book) i ≡ Some r → IsNotedMail users m.from m.place m.turn r old new → AreAnswersOf users turns old → AreAnswersOf users turns new
+  one-told r i old new there noted are = go (mailed_to users m.from m.turn r) refl noted
     where
       t : Told
       t = record { answer = r.answer; place = m.place; turn = m.turn }
 
-      go : (o : Option Pick) → mailed_to users m.going m.turn r ≡ o → IsNotedFor o t old new → AreAnswersOf users turns new
+      go : (o : Option Pick) → mailed_to users m.from m.turn r ≡ o → IsNotedFor o t old new → AreAnswersOf users turns new
       go None none same = subst (λ (ts : Tables). AreAnswersOf users turns ts) (sym same) are
       go (Some e) to new_one =
-          let mail : IsMailed users m.going e.user e.number m.turn r.answer = record { index = i; reached = r; at = there; to = to; answer = refl } in
+          let mail : IsMailed users m.from m.going e.user e.number m.turn r.answer = record { index = i; reached = r; at = there; to = to; answer = refl } in
           answer-noted users turns old new e.user e.number t (record { index = j; made = m; at = at; place = refl; turn = refl; is = inr mail }) new_one are
 
-  pub mail-told : (rs : List Reached) (old new : Tables) → ((i : ℕ) (r : Reached) → slice_get rs i ≡ Some r → (k : ℕ) × (slice_get (brought m.going.book) k ≡ Some r)) → AreNotedMail users m.going m.place m.turn rs old new
+  pub mail-told : (rs : List Reached) (old new : Tables) → ((i : ℕ) (r : Reached) → slice_get rs i ≡ Some r → (k : ℕ) × (slice_get (brought m.going.book) k ≡ Some r)) → AreNotedMail users m.from m.place m.turn rs old new
       → AreAnswersOf users turns old → AreAnswersOf users turns new
   mail-told [] old new among same are = subst (λ (ts : Tables). AreAnswersOf users turns ts) (sym same) are
   mail-told (r ∷ rs) old new among (mid, (one, rest)) are =
@@ -337,12 +338,12 @@ user-more lists i u old new t at is so_far more =
     so_far ∙ ap (λ (us : List User). old ++ no_answers us) (from-on lists i u at) ∙ ap (λ x. old ++ x ∷ no_answers (drop (i + 1) lists)) (sym is) ∙ sym (append_assoc old (t ∷ []) (no_answers (drop (i + 1) lists))) ∙ ap (λ (xs : Tables). xs ++ no_answers (drop (i + 1) lists)) (sym more)
 
 -- what is left to note of mail, one thing less
-pub mail-on : (users : List User) (g : Going) (place : ℕ) (t : Turn) (rs : List Reached) (i : ℕ) (r : Reached) (old mid : Tables) → slice_get rs i ≡ Some r → IsNotedMail users g place t r old mid → (new : Tables) → AreNotedMail users g place t (drop (i + 1) rs) mid new
-    → AreNotedMail users g place t (drop i rs) old new
-mail-on users g place t rs i r old mid at one new rest = subst (λ (xs : List Reached). AreNotedMail users g place t xs old new) (sym (from-on rs i r at)) (mid, (one, rest))
+pub mail-on : (users : List User) (from : List Position) (place : ℕ) (t : Turn) (rs : List Reached) (i : ℕ) (r : Reached) (old mid : Tables) → slice_get rs i ≡ Some r → IsNotedMail users from place t r old mid → (new : Tables) → AreNotedMail users from place t (drop (i + 1) rs) mid new
+    → AreNotedMail users from place t (drop i rs) old new
+mail-on users from place t rs i r old mid at one new rest = subst (λ (xs : List Reached). AreNotedMail users from place t xs old new) (sym (from-on rs i r at)) (mid, (one, rest))
 
 -- nothing is left to note
-pub all-noted : (users : List User) (g : Going) (place : ℕ) (t : Turn) (rs : List Reached) (i : ℕ) (old mid : Tables) → length rs ≤ i
-    → ((new : Tables) → AreNotedMail users g place t (drop i rs) mid new → AreNotedMail users g place t rs old new) → AreNotedMail users g place t rs old mid
-all-noted users g place t rs i old mid long noted =
-    noted mid (subst (λ (xs : List Reached). AreNotedMail users g place t xs mid mid) (sym (drop_all i rs long)) refl)
+pub all-noted : (users : List User) (from : List Position) (place : ℕ) (t : Turn) (rs : List Reached) (i : ℕ) (old mid : Tables) → length rs ≤ i
+    → ((new : Tables) → AreNotedMail users from place t (drop i rs) mid new → AreNotedMail users from place t rs old new) → AreNotedMail users from place t rs old mid
+all-noted users from place t rs i old mid long noted =
+    noted mid (subst (λ (xs : List Reached). AreNotedMail users from place t xs mid mid) (sym (drop_all i rs long)) refl)

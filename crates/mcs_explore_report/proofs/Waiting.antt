@@ -33,14 +33,18 @@ put-in (suc k) x (z ∷ ys) (suc i) y at = go (put-in k x ys i y at)
     go (inl e) = inl (ap (λ n. suc n) e.0, e.1)
     go (inr h) = inr h
 
--- to go on changes nothing of what waits
-gone-waits : (o : Option Settled) (u : User) (p : Position) → (gone_on o u p).waited ≡ p.waited
-gone-waits None u p = refl
-gone-waits (Some x) u p = refl
+-- what waits behind where a program goes on waited before
+gone-waits : (o : Option Settled) (u : User) (p : Position) (m : ℕ) → (gone_on o u p).waited ≡ Some m → p.waited ≡ Some m
+gone-waits None u p m e = e
+gone-waits (Some x) u p m e = absurd cc
+
+begins-free : (o : Option Settled) (u : User) → (gone_on o u begun).waited ≡ None
+begins-free None u = refl
+begins-free (Some x) u = refl
 
 started-in : (us : List User) (i : ℕ) (p : Position) → slice_get (map started us) i ≡ Some p → p.waited ≡ None
 started-in [] i p at = absurd cc
-started-in (u ∷ us) zero p at = ap (λ (q : Position). q.waited) (sym (some-same (started u) p at)) ∙ gone-waits (starts u.ops) u begun
+started-in (u ∷ us) zero p at = ap (λ (q : Position). q.waited) (sym (some-same (started u) p at)) ∙ begins-free (starts u.ops) u
 started-in (u ∷ us) (suc i) p at = started-in us i p at
 
 -- a user whose entry waits waits with it
@@ -48,68 +52,57 @@ waiting-it : (os : List Op) (u : User) (number m : ℕ) (s : Saved) → (waiting
 waiting-it [] u number m s e = sym (some-same number m e)
 waiting-it (o ∷ os) u number m s e = sym (some-same number m e)
 
+-- an entry that was answered leaves nothing that waits
+free : (u : User) (number m : ℕ) (o : Option Settled) (p : Position) → p.waited ≡ None → (gone_on o u p).waited ≡ Some m → ⊥
+free u number m o p none e = let waits : None ≡ Some m = sym none ∙ gone-waits o u p m e in absurd cc
+
 -- after an entry its user waits with it, if with one
 behind-it : (u : User) (number m : ℕ) (s : Saved) (a : Answer) → (behind u number s a).waited ≡ Some m → m ≡ number
 behind-it u number m s answer.Waits e = waiting-it u.ops u number m s e
-behind-it u number m s answer.Done e = absurd (none (sym (gone-waits (goes_on u.ops number s answer.Done) u (listed_behind u number s answer.Done)) ∙ e))
-  where
-    none : None ≡ Some m → ⊥
-    none f = absurd cc
-behind-it u number m s (answer.Got badge message) e = absurd (none (sym (gone-waits (goes_on u.ops number s (answer.Got badge message)) u (listed_behind u number s (answer.Got badge message))) ∙ e))
-  where
-    none : None ≡ Some m → ⊥
-    none f = absurd cc
-behind-it u number m s (answer.Heard word) e = absurd (none (sym (gone-waits (goes_on u.ops number s (answer.Heard word)) u (listed_behind u number s (answer.Heard word))) ∙ e))
-  where
-    none : None ≡ Some m → ⊥
-    none f = absurd cc
-behind-it u number m s answer.Empty e = absurd (none (sym (gone-waits (goes_on u.ops number s answer.Empty) u (listed_behind u number s answer.Empty)) ∙ e))
-  where
-    none : None ≡ Some m → ⊥
-    none f = absurd cc
-behind-it u number m s (answer.Refused why) e = absurd (none (sym (gone-waits (goes_on u.ops number s (answer.Refused why)) u (listed_behind u number s (answer.Refused why))) ∙ e))
-  where
-    none : None ≡ Some m → ⊥
-    none f = absurd cc
+behind-it u number m s answer.Done e = absurd (free u number m (goes_on u.ops number s answer.Done) (listed_behind u number s answer.Done) refl e)
+behind-it u number m s (answer.Got badge message) e = absurd (free u number m (goes_on u.ops number s (answer.Got badge message)) (listed_behind u number s (answer.Got badge message)) refl e)
+behind-it u number m s (answer.Heard word) e = absurd (free u number m (goes_on u.ops number s (answer.Heard word)) (listed_behind u number s (answer.Heard word)) refl e)
+behind-it u number m s answer.Empty e = absurd (free u number m (goes_on u.ops number s answer.Empty) (listed_behind u number s answer.Empty) refl e)
+behind-it u number m s (answer.Refused why) e = absurd (free u number m (goes_on u.ops number s (answer.Refused why)) (listed_behind u number s (answer.Refused why)) refl e)
 
--- what reaches a user changes nothing of what it waits with
-told-waits : (u : User) (a : Answer) (p : Position) → (told u a p).waited ≡ p.waited
-told-waits u a p = go p.waited
+-- what waits after something reached a user waited before
+told-waits : (u : User) (a : Answer) (p : Position) (m : ℕ) → (told u a p).waited ≡ Some m → p.waited ≡ Some m
+told-waits u a p m e = go p.waited e
   where
-    last : (number : ℕ) (b : Bool) → (cond b (gone_on (goes_on u.ops number p.saved a) u p) p).waited ≡ p.waited
-    last number true = gone-waits (goes_on u.ops number p.saved a) u p
-    last number false = refl
+    last : (number : ℕ) (b : Bool) → (cond b (gone_on (goes_on u.ops number p.saved a) u p) p).waited ≡ Some m → p.waited ≡ Some m
+    last number true e = gone-waits (goes_on u.ops number p.saved a) u p m e
+    last number false e = e
 
     by : Option ℕ → Position
     by o = elim o [ None ↦ p | Some number ↦ cond (comes_of u number a) (gone_on (goes_on u.ops number p.saved a) u p) p ]
 
-    go : (o : Option ℕ) → (by o).waited ≡ p.waited
-    go None = refl
-    go (Some number) = last number (comes_of u number a)
+    go : (o : Option ℕ) → (by o).waited ≡ Some m → p.waited ≡ Some m
+    go None e = e
+    go (Some number) e = last number (comes_of u number a) e
 
-told-if-waits : (u : User) (r : Reached) (p : Position) → (told_if u r p).waited ≡ p.waited
-told-if-waits u r p = go (same u.thread r.thread)
+told-if-waits : (u : User) (r : Reached) (p : Position) (m : ℕ) → (told_if u r p).waited ≡ Some m → p.waited ≡ Some m
+told-if-waits u r p m e = go (same u.thread r.thread) e
   where
-    go : (b : Bool) → (cond b (told u r.answer p) p).waited ≡ p.waited
-    go true = told-waits u r.answer p
-    go false = refl
+    go : (b : Bool) → (cond b (told u r.answer p) p).waited ≡ Some m → p.waited ≡ Some m
+    go true e = told-waits u r.answer p m e
+    go false e = e
 
-told-all-waits : (rs : List Reached) (u : User) (p : Position) → (told_all rs u p).waited ≡ p.waited
-told-all-waits [] u p = refl
-told-all-waits (r ∷ rs) u p = told-all-waits rs u (told_if u r p) ∙ told-if-waits u r p
+told-all-waits : (rs : List Reached) (u : User) (p : Position) (m : ℕ) → (told_all rs u p).waited ≡ Some m → p.waited ≡ Some m
+told-all-waits [] u p m e = e
+told-all-waits (r ∷ rs) u p m e = told-if-waits u r p m (told-all-waits rs u (told_if u r p) m e)
 
-place-told-waits : (rs : List Reached) (own : ℕ) (users : List User) (i : ℕ) (p : Position) → (place_told rs own users i p).waited ≡ p.waited
-place-told-waits rs own users i p = go (i == own) (slice_get users i)
+place-told-waits : (rs : List Reached) (own : ℕ) (users : List User) (i : ℕ) (p : Position) (m : ℕ) → (place_told rs own users i p).waited ≡ Some m → p.waited ≡ Some m
+place-told-waits rs own users i p m e = go (i == own) (slice_get users i) e
   where
-    go : (b : Bool) (o : Option User) → (cond b p (elim o [ None ↦ p | Some u ↦ told_all rs u p ])).waited ≡ p.waited
-    go true o = refl
-    go false None = refl
-    go false (Some u) = told-all-waits rs u p
+    go : (b : Bool) (o : Option User) → (cond b p (elim o [ None ↦ p | Some u ↦ told_all rs u p ])).waited ≡ Some m → p.waited ≡ Some m
+    go true o e = e
+    go false None e = e
+    go false (Some u) e = told-all-waits rs u p m e
 
--- who stands in a place stood there before, and waits as before
-told-in : (rs : List Reached) (own i : ℕ) (users : List User) (ps : List Position) (j : ℕ) (p : Position) → slice_get (all_told rs own i users ps) j ≡ Some p → (q : Position) × ((slice_get ps j ≡ Some q) × (q.waited ≡ p.waited))
+-- who stands in a place stood there before, and waited if it waits
+told-in : (rs : List Reached) (own i : ℕ) (users : List User) (ps : List Position) (j : ℕ) (p : Position) → slice_get (all_told rs own i users ps) j ≡ Some p → (q : Position) × ((slice_get ps j ≡ Some q) × ((m : ℕ) → p.waited ≡ Some m → q.waited ≡ Some m))
 told-in rs own i users [] j p at = absurd cc
-told-in rs own i users (q ∷ qs) zero p at = (q, (refl, sym (place-told-waits rs own users i q) ∙ ap (λ (x : Position). x.waited) (some-same (place_told rs own users i q) p at)))
+told-in rs own i users (q ∷ qs) zero p at = (q, (refl, λ m e. place-told-waits rs own users i q m (ap (λ (x : Position). x.waited) (some-same (place_told rs own users i q) p at) ∙ e)))
 told-in rs own i users (q ∷ qs) (suc j) p at = told-in rs own (i + 1) users qs j p at
 
 waits-entry : (users : List User) (boot : Boot) (n : ℕ) (g : Going) → IsRun users boot n g → (i m : ℕ) (p : Position) → slice_get g.places i ≡ Some p → p.waited ≡ Some m → IsEntry users i m
@@ -120,7 +113,7 @@ waits-entry users boot zero g begins i m p at waits =
     none e = absurd cc
 waits-entry users boot (suc n) h (g, (run, follows)) i m p at waits =
     let before = told-in (reached_from None (outcome g.book step).records) k.user 0 users (put_at k.user there g.places) i p (ap (λ (x : Going). slice_get x.places i) (sym turn.after) ∙ at) in
-    go before.0 (put-in k.user there g.places i before.0 before.1.0) (before.1.1 ∙ waits) (λ q was w. waits-entry users boot n g run i m q was w)
+    go before.0 (put-in k.user there g.places i before.0 before.1.0) (before.1.1 m waits) (λ q was w. waits-entry users boot n g run i m q was w)
   where
     k : Pick
     k = follows.pick
@@ -142,35 +135,35 @@ waits-entry users boot (suc n) h (g, (run, follows)) i m p at waits =
         subst (λ j. IsEntry users j m) (sym e.0) (subst (λ x. IsEntry users k.user x) (sym number) is)
 
 -- the entry to which something comes waited
-mailed-waits : (users : List User) (g : Going) (t : Turn) (r : Reached) (e : Pick) → mailed_to users g t r ≡ Some e → waiting g e.user t ≡ Some e.number
-mailed-waits users g t r e is = outer (user_of users r.thread) is
+mailed-waits : (users : List User) (from : List Position) (t : Turn) (r : Reached) (e : Pick) → mailed_to users from t r ≡ Some e → waiting from e.user t ≡ Some e.number
+mailed-waits users from t r e is = outer (user_of users r.thread) is
   where
-    last : (user number : ℕ) → waiting g user t ≡ Some number → (b : Bool) → cond b (Some (record { user = user; number = number })) None ≡ Some e → waiting g e.user t ≡ Some e.number
+    last : (user number : ℕ) → waiting from user t ≡ Some number → (b : Bool) → cond b (Some (record { user = user; number = number })) None ≡ Some e → waiting from e.user t ≡ Some e.number
     last user number waits false is = absurd cc
-    last user number waits true is = let same : record { user = user; number = number } ≡ e = some-same (record { user = user; number = number }) e is in subst (λ (k : Pick). waiting g k.user t ≡ Some k.number) same waits
+    last user number waits true is = let same : record { user = user; number = number } ≡ e = some-same (record { user = user; number = number }) e is in subst (λ (k : Pick). waiting from k.user t ≡ Some k.number) same waits
 
-    inner : (user : ℕ) (o : Option ℕ) → waiting g user t ≡ o → elim o [ None ↦ None | Some number ↦ cond (comes_to users user number r.answer) (Some (record { user = user; number = number })) None ] ≡ Some e → waiting g e.user t ≡ Some e.number
+    inner : (user : ℕ) (o : Option ℕ) → waiting from user t ≡ o → elim o [ None ↦ None | Some number ↦ cond (comes_to users user number r.answer) (Some (record { user = user; number = number })) None ] ≡ Some e → waiting from e.user t ≡ Some e.number
     inner user None waits is = absurd cc
     inner user (Some number) waits is = last user number waits (comes_to users user number r.answer) is
 
-    outer : (o : Option ℕ) → elim o [ None ↦ None | Some user ↦ elim (waiting g user t) [ None ↦ None | Some number ↦ cond (comes_to users user number r.answer) (Some (record { user = user; number = number })) None ] ] ≡ Some e
-        → waiting g e.user t ≡ Some e.number
+    outer : (o : Option ℕ) → elim o [ None ↦ None | Some user ↦ elim (waiting from user t) [ None ↦ None | Some number ↦ cond (comes_to users user number r.answer) (Some (record { user = user; number = number })) None ] ] ≡ Some e
+        → waiting from e.user t ≡ Some e.number
     outer None is = absurd cc
-    outer (Some user) is = inner user (waiting g user t) refl is
+    outer (Some user) is = inner user (waiting from user t) refl is
 
-waits-there : (g : Going) (user number : ℕ) (t : Turn) → waiting g user t ≡ Some number → (p : Position) × ((slice_get g.places user ≡ Some p) × (p.waited ≡ Some number))
-waits-there g user number t is = other (user == t.pick.user) is
+waits-there : (from : List Position) (user number : ℕ) (t : Turn) → waiting from user t ≡ Some number → (p : Position) × ((slice_get from user ≡ Some p) × (p.waited ≡ Some number))
+waits-there from user number t is = other (user == t.pick.user) is
   where
-    found : (o : Option Position) → slice_get g.places user ≡ o → elim o [ None ↦ None | Some p ↦ p.waited ] ≡ Some number → (p : Position) × ((slice_get g.places user ≡ Some p) × (p.waited ≡ Some number))
+    found : (o : Option Position) → slice_get from user ≡ o → elim o [ None ↦ None | Some p ↦ p.waited ] ≡ Some number → (p : Position) × ((slice_get from user ≡ Some p) × (p.waited ≡ Some number))
     found None there is = absurd cc
     found (Some p) there is = (p, (there, is))
 
-    other : (b : Bool) → cond b None (elim (slice_get g.places user) [ None ↦ None | Some p ↦ p.waited ]) ≡ Some number → (p : Position) × ((slice_get g.places user ≡ Some p) × (p.waited ≡ Some number))
+    other : (b : Bool) → cond b None (elim (slice_get from user) [ None ↦ None | Some p ↦ p.waited ]) ≡ Some number → (p : Position) × ((slice_get from user ≡ Some p) × (p.waited ≡ Some number))
     other true is = absurd cc
-    other false is = found (slice_get g.places user) refl is
+    other false is = found (slice_get from user) refl is
 
 -- it is one that its user has
-pub mailed-entry : (users : List User) (boot : Boot) (n : ℕ) (g : Going) (user number : ℕ) (t : Turn) (a : Answer) → IsRun users boot n g → IsMailed users g user number t a → IsEntry users user number
-mailed-entry users boot n g user number t a run mail =
-    let p = waits-there g user number t (mailed-waits users g t mail.reached (record { user = user; number = number }) mail.to) in
+pub mailed-entry : (users : List User) (boot : Boot) (n : ℕ) (g h : Going) (user number : ℕ) (t : Turn) (a : Answer) → IsRun users boot n g → IsMailed users g.places h user number t a → IsEntry users user number
+mailed-entry users boot n g h user number t a run mail =
+    let p = waits-there g.places user number t (mailed-waits users g.places t mail.reached (record { user = user; number = number }) mail.to) in
     waits-entry users boot n g run user number p.0 p.1.0 p.1.1

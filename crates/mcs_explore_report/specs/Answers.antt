@@ -3,6 +3,7 @@ use Rattle.std.specs.Prelude.{ℕ, ◌≡◌, ◌==◌, ◌++◌, ◌⊎◌, Boo
 use Rattle.mcs_types.specs.declared.entry.Answer.{Answer}
 use Rattle.mcs_types.specs.declared.entry.Answer.TheVariants as answer
 use Rattle.mcs_types.specs.declared.entry.Entry.{Entry}
+use Rattle.mcs_turns.specs.declared.position.Position.{Position}
 use Rattle.mcs_turns.specs.declared.position.Pick.{Pick}
 use Rattle.mcs_turns.specs.Turns.{User, Going, is_send_at}
 use Rattle.mcs_explore_walk.specs.declared.walk.Turn.{Turn}
@@ -86,15 +87,15 @@ abbrev pub comes_to : List User → ℕ → ℕ → Answer → Bool
 comes_to users user number answer.Done = gave_send users user number
 comes_to users user number a = true
 
--- the number of the entry with which a user waited, behind a turn of another user
-abbrev pub waiting : Going → ℕ → Turn → Option ℕ
-waiting g user t = cond (user == t.pick.user) None (elim (slice_get g.places user) [ None ↦ None | Some p ↦ p.waited ])
+-- the number of the entry with which a user waited before a turn of another user
+abbrev pub waiting : List Position → ℕ → Turn → Option ℕ
+waiting from user t = cond (user == t.pick.user) None (elim (slice_get from user) [ None ↦ None | Some p ↦ p.waited ])
 
 -- the entry of a user that waited and comes to what reached its thread, if there is one
-abbrev pub mailed_to : List User → Going → Turn → Reached → Option Pick
-mailed_to users g t r = elim (user_of users r.thread) [
+abbrev pub mailed_to : List User → List Position → Turn → Reached → Option Pick
+mailed_to users from t r = elim (user_of users r.thread) [
   | None ↦ None
-  | Some user ↦ elim (waiting g user t) [
+  | Some user ↦ elim (waiting from user t) [
     | None ↦ None
     | Some number ↦ cond (comes_to users user number r.answer) (Some (record { user = user; number = number })) None
   ]
@@ -106,21 +107,21 @@ IsNotedFor None t old new = new ≡ old
 IsNotedFor (Some e) t old new = IsNotedOf e.user e.number t old new
 
 -- what reached a thread by a turn from the state in a place is noted of the entry that comes to it
-abbrev pub IsNotedMail : List User → Going → ℕ → Turn → Reached → Tables → Tables → Type 0
-IsNotedMail users g place t r old new = IsNotedFor (mailed_to users g t r) (record { answer = r.answer; place = place; turn = t }) old new
+abbrev pub IsNotedMail : List User → List Position → ℕ → Turn → Reached → Tables → Tables → Type 0
+IsNotedMail users from place t r old new = IsNotedFor (mailed_to users from t r) (record { answer = r.answer; place = place; turn = t }) old new
 
 -- so is all that did, one after the other
-abbrev pub AreNotedMail : List User → Going → ℕ → Turn → List Reached → Tables → Tables → Type 0
-AreNotedMail users g place t [] old new = new ≡ old
-AreNotedMail users g place t (r ∷ rs) old new = (mid : Tables) × (IsNotedMail users g place t r old mid × AreNotedMail users g place t rs mid new)
+abbrev pub AreNotedMail : List User → List Position → ℕ → Turn → List Reached → Tables → Tables → Type 0
+AreNotedMail users from place t [] old new = new ≡ old
+AreNotedMail users from place t (r ∷ rs) old new = (mid : Tables) × (IsNotedMail users from place t r old mid × AreNotedMail users from place t rs mid new)
 
--- by a turn that led to this state this answer reached a thread, and this entry of its user waited
--- and comes to it
-pub record IsMailed (users : List User) (g : Going) (user number : ℕ) (t : Turn) (a : Answer) : Type 0 where
+-- by a turn from these positions to this state this answer reached a thread, and this entry of its
+-- user waited before it and comes to it
+pub record IsMailed (users : List User) (from : List Position) (g : Going) (user number : ℕ) (t : Turn) (a : Answer) : Type 0 where
   pub index : ℕ
   pub reached : Reached
   pub at : slice_get (brought g.book) index ≡ Some reached
-  pub to : mailed_to users g t reached ≡ Some (record { user = user; number = number })
+  pub to : mailed_to users from t reached ≡ Some (record { user = user; number = number })
   pub answer : reached.answer ≡ a
 
 -- an answer of an entry is that of a turn that was shown
@@ -130,7 +131,7 @@ pub record IsAnswerOf (users : List User) (turns : List Made) (user number : ℕ
   pub at : slice_get turns index ≡ Some made
   pub place : made.place ≡ t.place
   pub turn : made.turn ≡ t.turn
-  pub is : IsOwnAnswer made user number t.answer ⊎ IsMailed users made.going user number made.turn t.answer
+  pub is : IsOwnAnswer made user number t.answer ⊎ IsMailed users made.from made.going user number made.turn t.answer
 
 -- each answer of an entry is that of a turn that was shown, and each answer of such a turn but
 -- Waits is among those of its entry
@@ -141,4 +142,4 @@ pub record AreAnswersOf (users : List User) (turns : List Made) (tables : Tables
 
 -- what a turn that was shown brought to an entry that waited is among the answers of that entry
 abbrev pub AreMailOf : List User → List Made → Tables → Type 0
-AreMailOf users turns tables = (j : ℕ) (m : Made) (user number : ℕ) (a : Answer) (told : List Told) → slice_get turns j ≡ Some m → IsMailed users m.going user number m.turn a → table_of tables user number ≡ Some told → IsAmong told a
+AreMailOf users turns tables = (j : ℕ) (m : Made) (user number : ℕ) (a : Answer) (told : List Told) → slice_get turns j ≡ Some m → IsMailed users m.from m.going user number m.turn a → table_of tables user number ≡ Some told → IsAmong told a

@@ -31,7 +31,7 @@ pub record IsTurnBefore (turns : List Made) (place j : ℕ) : Type 0 where
 
 -- a turn gave an entry this answer: its own, but Waits, or what reached it
 abbrev pub HasGiven : List User → Made → ℕ → ℕ → Answer → Type 0
-HasGiven users m user number a = (IsOwnAnswer m user number a × (a ≡ answer.Waits → ⊥)) ⊎ IsMailed users m.going user number m.turn a
+HasGiven users m user number a = (IsOwnAnswer m user number a × (a ≡ answer.Waits → ⊥)) ⊎ IsMailed users m.from m.going user number m.turn a
 
 -- no state that ends so was shown before the one that a kind of ends has
 abbrev pub AreFirstEnds : List User → List Sight → List Kind → Type 0

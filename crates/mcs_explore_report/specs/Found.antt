@@ -52,7 +52,7 @@ pub record IsAnswerFound {K : Type 0} (users : List User) (boot : Boot) (found :
   pub going : Going
   pub at : IsAt users boot found t.place state
   pub turn : Leads users t.turn state going
-  pub is : IsAnswered t.turn going user number t.answer ⊎ IsMailed users going user number t.turn t.answer
+  pub is : IsAnswered t.turn going user number t.answer ⊎ IsMailed users state.places going user number t.turn t.answer
 
 -- each entry has answers, each of them is that of a turn from a state that was looked behind, and
 -- what each such turn was answered but Waits is among those of its entry
@@ -65,7 +65,7 @@ pub record AreAnswersFound {K : Type 0} (users : List User) (boot : Boot) (found
 -- what each turn from a state that was looked behind brought to an entry that waited is among the
 -- answers of that entry
 abbrev pub IsMailFound : {K : Type 0} → List User → Boot → Entries K Turn → ℕ → Tables → Type 0
-IsMailFound users boot found done tables = (place : ℕ) (t : Turn) (g h : Going) (user number : ℕ) (a : Answer) (told : List Told) → place < done → IsAt users boot found place g → Leads users t g h → IsMailed users h user number t a
+IsMailFound users boot found done tables = (place : ℕ) (t : Turn) (g h : Going) (user number : ℕ) (a : Answer) (told : List Told) → place < done → IsAt users boot found place g → Leads users t g h → IsMailed users g.places h user number t a
     → table_of tables user number ≡ Some told → IsAmong told a
 
 -- each run of users that is over ends as one of these kinds says
@@ -82,7 +82,7 @@ pub record IsKeptOf (tables : Tables) (user number : ℕ) (a : Answer) : Type 0 
 -- is among the answers of its entry
 pub record AreAnswersInRuns (users : List User) (boot : Boot) (tables : Tables) : Type 0 where
   pub own : (n : ℕ) (t : Turn) (g h : Going) (a : Answer) → IsRun users boot n g → Leads users t g h → last_answer h.book ≡ Some a → (a ≡ answer.Waits → ⊥) → IsKeptOf tables t.pick.user t.pick.number a
-  pub mail : (n : ℕ) (t : Turn) (g h : Going) (user number : ℕ) (a : Answer) → IsRun users boot n g → Leads users t g h → IsMailed users h user number t a → IsKeptOf tables user number a
+  pub mail : (n : ℕ) (t : Turn) (g h : Going) (user number : ℕ) (a : Answer) → IsRun users boot n g → Leads users t g h → IsMailed users g.places h user number t a → IsKeptOf tables user number a
 
 -- so many turns lead from states that were looked behind, and so many of these are over, as far as
 -- a count goes
@@ -120,15 +120,15 @@ pub record AreJudgedFound {K : Type 0} (users : List User) (boot : Boot) (found 
   pub long : length failed ≡ length questions
   pub each : (i : ℕ) (q : AskedLine) (f : Option Sighting) → slice_get questions i ≡ Some q → slice_get failed i ≡ Some f → IsJudgedFound users boot found done q.asked f
 
--- a turn gave an entry this answer: its own, but Waits, or what reached it
-abbrev pub IsGiven : List User → Turn → Going → ℕ → ℕ → Answer → Type 0
-IsGiven users t h user number a = (IsAnswered t h user number a × (a ≡ answer.Waits → ⊥)) ⊎ IsMailed users h user number t a
+-- a turn from a state to another gave an entry this answer: its own, but Waits, or what reached it
+abbrev pub IsGiven : List User → Turn → Going → Going → ℕ → ℕ → Answer → Type 0
+IsGiven users t g h user number a = (IsAnswered t h user number a × (a ≡ answer.Waits → ⊥)) ⊎ IsMailed users g.places h user number t a
 
 -- each end, each answer and each failure is kept in the first place where there is one like it
 pub record AreFirstFound {K : Type 0} (users : List User) (boot : Boot) (found : Entries K Turn) (done : ℕ) (questions : List AskedLine) (kinds : List Kind) (tables : Tables) (failed : List (Option Sighting)) : Type 0 where
   pub ends : (i place : ℕ) (k : Kind) (g : Going) → slice_get kinds i ≡ Some k → place < done → IsAt users boot found place g → IsOver users g → standings users g ≡ k.standing → k.place ≤ place
   pub answers : (user number i place : ℕ) (told : List Told) (t : Told) (u : Turn) (g h : Going) → table_of tables user number ≡ Some told → slice_get told i ≡ Some t → place < done → IsAt users boot found place g → Leads users u g h
-      → IsGiven users u h user number t.answer → t.place ≤ place
+      → IsGiven users u g h user number t.answer → t.place ≤ place
   pub failures : (i place : ℕ) (q : AskedLine) (seen : Sighting) (t : Option Turn) (g h : Going) → slice_get questions i ≡ Some q → slice_get failed i ≡ Some (Some seen) → place < done → IsAt users boot found place g → IsSeenFrom users g t h
       → fails users q.asked t h ≡ true → seen.place ≤ place
 
@@ -142,7 +142,7 @@ pub record IsHeldInRuns (users : List User) (boot : Boot) (q : Asked) : Type 0 w
 pub record AreShortest {K : Type 0} (users : List User) (boot : Boot) (found : Entries K Turn) (questions : List AskedLine) (kinds : List Kind) (tables : Tables) (failed : List (Option Sighting)) : Type 0 where
   pub ends : (i n : ℕ) (k : Kind) (g : Going) → slice_get kinds i ≡ Some k → IsRun users boot n g → IsOver users g → standings users g ≡ k.standing → depth_at found k.place ≤ n
   pub answers : (user number i n : ℕ) (told : List Told) (t : Told) (u : Turn) (g h : Going) → table_of tables user number ≡ Some told → slice_get told i ≡ Some t → IsRun users boot n g → Leads users u g h
-      → IsGiven users u h user number t.answer → depth_at found t.place ≤ n
+      → IsGiven users u g h user number t.answer → depth_at found t.place ≤ n
   pub failures : (i n : ℕ) (q : AskedLine) (seen : Sighting) (t : Option Turn) (g h : Going) → slice_get questions i ≡ Some q → slice_get failed i ≡ Some (Some seen) → IsRun users boot n g → IsSeenFrom users g t h
       → fails users q.asked t h ≡ true → depth_at found seen.place ≤ n
 

@@ -24,7 +24,7 @@ use Rattle.mcs_explore_report.specs.Verdicts.{is_said, lacks}
 
 -- each answer of an entry, in each run, is one that the pattern matches, or not, as is wanted
 abbrev pub AllAnswersAre : List User → Boot → Event → List ℕ → Bool → Type 0
-AllAnswersAre users boot e pattern wanted = (user n : ℕ) (t : Turn) (g h : Going) (a : Answer) → user_of users e.thread ≡ Some user → IsRun users boot n g → Leads users t g h → IsGiven users t h user (e.number - 1) a → is_said pattern a ≡ wanted
+AllAnswersAre users boot e pattern wanted = (user n : ℕ) (t : Turn) (g h : Going) (a : Answer) → user_of users e.thread ≡ Some user → IsRun users boot n g → Leads users t g h → IsGiven users t g h user (e.number - 1) a → is_said pattern a ≡ wanted
 
 -- each run that is over has answered an entry for good
 abbrev pub EachEndIsAnswered : List User → Boot → Event → Type 0
@@ -41,7 +41,7 @@ pub record SomeAnswerIs (users : List User) (boot : Boot) (e : Event) (pattern :
   pub going : Going
   pub leads : Leads users turn state going
   pub answer : Answer
-  pub is : IsAnswered turn going user (e.number - 1) answer ⊎ IsMailed users going user (e.number - 1) turn answer
+  pub is : IsAnswered turn going user (e.number - 1) answer ⊎ IsMailed users state.places going user (e.number - 1) turn answer
   pub said : is_said pattern answer ≡ wanted
 
 -- a question holds in all runs; what `live` asks is among the lives of the script

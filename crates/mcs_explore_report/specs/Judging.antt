@@ -13,7 +13,7 @@ use Rattle.mcs_text.specs.Reading.{words_of}
 use Rattle.mcs_text.specs.Table.{answer_text, record_text}
 use Rattle.mcs_sim.specs.Trace.{sent_with}
 use Rattle.mcs_turns.specs.declared.position.Position.{Position}
-use Rattle.mcs_turns.specs.Turns.{User, Going, current}
+use Rattle.mcs_turns.specs.Turns.{User, Going}
 use Rattle.mcs_explore_walk.specs.declared.walk.Turn.{Turn}
 use Rattle.mcs_explore_questions.specs.declared.asking.Asked.{Asked}
 use Rattle.mcs_explore_questions.specs.declared.asking.Asked.TheVariants as asked
@@ -34,7 +34,7 @@ answered_by st p = unwrap_or p.waited p.next
 abbrev pub answered : List User → Going → ℕ → ℕ
 answered users g i = elim (slice_get users i) [
   | None ↦ 0
-  | Some u ↦ elim (slice_get g.places i) [ None ↦ 0 | Some p ↦ answered_by (status_of (log_of g.book) u.thread) (current u p) ]
+  | Some u ↦ elim (slice_get g.places i) [ None ↦ 0 | Some p ↦ answered_by (status_of (log_of g.book) u.thread) p ]
 ]
 
 -- how many it gave: one that waits is among them
@@ -55,7 +55,7 @@ is_within s st p = nat_le s.from (answered_by st p) && nat_lt (ended_by s.until 
 abbrev pub is_at : List User → Going → Span → ℕ → Bool
 is_at users g s i = elim (slice_get users i) [
   | None ↦ false
-  | Some u ↦ elim (slice_get g.places i) [ None ↦ false | Some p ↦ is_within s (status_of (log_of g.book) u.thread) (current u p) ]
+  | Some u ↦ elim (slice_get g.places i) [ None ↦ false | Some p ↦ is_within s (status_of (log_of g.book) u.thread) p ]
 ]
 
 -- whether the user of a span is in it

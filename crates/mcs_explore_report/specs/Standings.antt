@@ -6,7 +6,7 @@ use Rattle.mcs_book.specs.History.{log_of}
 use Rattle.mcs_book.specs.Statuses.{status_of}
 use Rattle.mcs_turns.specs.declared.position.Position.{Position}
 use Rattle.mcs_turns.specs.Due.{due_by}
-use Rattle.mcs_turns.specs.Turns.{User, Going, current}
+use Rattle.mcs_turns.specs.Turns.{User, Going}
 use Rattle.mcs_explore_report.specs.declared.ends.Standing.{Standing}
 use Rattle.mcs_explore_report.specs.Judging.{answered_by}
 
@@ -18,13 +18,10 @@ is_blocked _ = true
 
 -- how a user stands whose thread has this status; none where it has done all and waits for nothing
 abbrev pub standing_by : User → Option Status → Position → Option Standing
-standing_by u st p = cond (left || (is_blocked st && is_some now.waited)) (Some (record { thread = u.thread; status = st; has_entries = left; answered = answered_by st now })) None
+standing_by u st p = cond (left || (is_blocked st && is_some p.waited)) (Some (record { thread = u.thread; status = st; has_entries = left; answered = answered_by st p })) None
   where
-    now : Position
-    now = current u p
-
     left : Bool
-    left = nat_lt (due_by st now) (length u.entries)
+    left = nat_lt (due_by st p) (length u.entries)
 
 -- how the user in a place stands
 abbrev pub standing_of : List User → Going → ℕ → Option Standing

@@ -4,6 +4,7 @@ use Rattle.std.specs.List.{list_any}
 use Rattle.mcs_types.specs.declared.entry.Answer.{Answer}
 use Rattle.mcs_types.specs.declared.entry.Answer.TheVariants as answer
 use Rattle.mcs_book.specs.Boots.{Boot}
+use Rattle.mcs_turns.specs.declared.position.Position.{Position}
 use Rattle.mcs_turns.specs.declared.position.Pick.{Pick}
 use Rattle.mcs_turns.specs.Turns.{User, Going, Follows, IsRun, is_program}
 use Rattle.mcs_explore_search.specs.declared.search.Edge.{Edge}
@@ -41,26 +42,26 @@ abbrev pub is_about : Live → Pick → Bool
 is_about l k = (k.user == l.user) && elim l.entry [ None ↦ true | Some e ↦ k.number == e ]
 
 -- whether what reached a thread is what an entry comes to that is asked about
-abbrev pub is_mailed : List User → Going → Turn → Live → Reached → Bool
-is_mailed users g t l r = elim (mailed_to users g t r) [ None ↦ false | Some k ↦ is_about l k ]
+abbrev pub is_mailed : List User → List Position → Turn → Live → Reached → Bool
+is_mailed users from t l r = elim (mailed_to users from t r) [ None ↦ false | Some k ↦ is_about l k ]
 
 -- whether an answer is Waits
 abbrev pub is_waits : Answer → Bool
 is_waits answer.Waits = true
 is_waits _ = false
 
--- whether a turn that led to this state answers an entry that is asked about: its own, or one that
--- waited
-abbrev pub answers : List User → Live → Turn → Answer → Going → Bool
-answers users l t a g = (is_about l t.pick && not (is_waits a)) || list_any (is_mailed users g t l) (brought g.book)
+-- whether a turn from these positions, which brought this to threads, answers an entry that is asked
+-- about: its own, or one that waited
+abbrev pub answers : List User → Live → Turn → Answer → List Position → List Reached → Bool
+answers users l t a from rs = (is_about l t.pick && not (is_waits a)) || list_any (is_mailed users from t l) rs
 
--- the same, by the newest line of its book
-abbrev pub answers_last : List User → Live → Turn → Going → Bool
-answers_last users l t g = elim (last_answer g.book) [ None ↦ false | Some a ↦ answers users l t a g ]
+-- whether a turn from a state to another does, by the newest line of its book
+abbrev pub answers_last : List User → Live → Turn → Going → Going → Bool
+answers_last users l t g h = elim (last_answer h.book) [ None ↦ false | Some a ↦ answers users l t a g.places (brought h.book) ]
 
 -- what is asked about is settled in a state, or a turn from it answers it
 abbrev pub IsNear : List User → Live → Going → Type 0
-IsNear users l g = (is_settled users l g ≡ true) ⊎ ((t : Turn) × ((h : Going) × (Leads users t g h × (answers_last users l t h ≡ true))))
+IsNear users l g = (is_settled users l g ≡ true) ⊎ ((t : Turn) × ((h : Going) × (Leads users t g h × (answers_last users l t g h ≡ true))))
 
 -- a run leads on from a state to one where that is so
 pub record IsLive (users : List User) (l : Live) (g : Going) : Type 0 where
@@ -84,8 +85,8 @@ pub record Asking : Type 0 where
 abbrev pub with_sight : List User → Going → Live → Noted → Noted
 with_sight users g l n = record n { settled = n.settled ++ is_settled users l g ∷ [] }
 
-abbrev pub with_made : List User → ℕ → Turn → Answer → Going → Live → Noted → Noted
-with_made users place t a h l n = record n { answered = n.answered ++ cond (answers users l t a h) (place ∷ []) [] }
+abbrev pub with_made : List User → ℕ → Turn → Answer → List Position → List Reached → Live → Noted → Noted
+with_made users place t a from rs l n = record n { answered = n.answered ++ cond (answers users l t a from rs) (place ∷ []) [] }
 
 -- what is noted of each question is changed so
 pub record AreNotedOn (change : Live → Noted → Noted) (lives : List Live) (old new : List Noted) : Type 0 where
@@ -95,7 +96,7 @@ pub record AreNotedOn (change : Live → Noted → Noted) (lives : List Live) (o
 -- what is noted of a question is what was shown
 pub record IsNotedBy (users : List User) (shown : Shown) (l : Live) (n : Noted) : Type 0 where
   pub settled : n.settled ≡ map (λ (s : Sight). is_settled users l s.going) shown.states
-  pub answered : n.answered ≡ flat_map (λ (m : Made). cond (answers users l m.turn m.answer m.going) (m.place ∷ []) []) shown.turns
+  pub answered : n.answered ≡ flat_map (λ (m : Made). cond (answers users l m.turn m.answer m.from (brought m.going.book)) (m.place ∷ []) []) shown.turns
 
 -- so it is of each
 pub record AreNotedBy (users : List User) (lives : List Live) (shown : Shown) (notes : List Noted) : Type 0 where

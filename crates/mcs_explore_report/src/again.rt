@@ -68,11 +68,12 @@ impl<'a> Path<'a> {
     /// Makes a turn, and notes which entries that waited it answered. OutOfMemory where memory was
     /// refused.
     fn step(&mut self, turn: Turn) -> Result<(), OrdersFault> {
+        let from = Vec::from_slice(self.alloc, self.walk.places())?;
         let picks = self.walk.picks(self.alloc, self.users)?;
         self.walk.turn(self.alloc, self.users, &picks, turn)?;
         self.note(turn.pick.user, None);
         for reached in brought(self.alloc, &self.walk)? {
-            if let Some(entry) = mailed_to(self.users, &self.walk, turn, &reached) {
+            if let Some(entry) = mailed_to(self.users, &from, turn, &reached) {
                 self.note(entry.user, Some(entry.number));
             }
         }

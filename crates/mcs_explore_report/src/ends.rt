@@ -9,7 +9,6 @@ use crate::naming::object_in;
 use mcs_explore_orders::{OrdersFault, Users, Walk};
 use mcs_queues::PlainLines;
 use mcs_types::{ObjId, Status};
-use mcs_users::current;
 use std::alloc::{AllocError, Global};
 use std::marker::Model;
 
@@ -143,7 +142,7 @@ fn standing_of(users: &Users, walk: &Walk<PlainLines>, user: usize) -> Option<St
     ensures { result ≡ standing_of users.now walk.now user }
 {
     let list = users.at(user)?;
-    let place = current(list, walk.place(user)?);
+    let place = walk.place(user)?;
     let status = walk.kernel().status(list.thread);
     let has_entries = place.is_left(status, list.entries.len());
     let waits = is_blocked(status) && place.waited.is_some();

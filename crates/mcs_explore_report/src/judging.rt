@@ -18,7 +18,6 @@ use mcs_queues::PlainLines;
 use mcs_trace::{Line, spell_answer, spell_record};
 use mcs_turns::Position;
 use mcs_types::Status;
-use mcs_users::current;
 
 /// Where something is seen: in a state, or by a turn from it.
 #[derive(Clone, Copy, Drop)]
@@ -45,7 +44,7 @@ pub fn answered(users: &Users, walk: &Walk<PlainLines>, user: usize) -> usize
         return 0;
     };
     match walk.place(user) {
-        Some(place) => answered_by(walk.kernel().status(list.thread), current(list, place)),
+        Some(place) => answered_by(walk.kernel().status(list.thread), place),
         None => 0,
     }
 }
@@ -87,10 +86,7 @@ fn is_at(users: &Users, walk: &Walk<PlainLines>, span: Span, user: usize) -> boo
         return false;
     };
     match walk.place(user) {
-        Some(place) => {
-            let status = walk.kernel().status(list.thread);
-            is_within(span, status, current(list, place))
-        }
+        Some(place) => is_within(span, walk.kernel().status(list.thread), place),
         None => false,
     }
 }

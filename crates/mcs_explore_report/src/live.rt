@@ -4,7 +4,6 @@ ghost use Rattle.std.specs.Prelude.{true, ◌≡◌, ◌++◌, ◌∷◌, [], If
 ghost use Rattle.std.specs.List.{list_any};
 ghost use Rattle.mcs_explore_search.specs.Reaching.{AreWithin};
 ghost use Rattle.mcs_explore_report.specs.Stuck.{AreNotedOn, IsFirstUnled, answers, comes_again, first_marks, is_about, is_mailed, is_settled, is_waits, settled_by, with_made, with_mark, with_marks, with_sight};
-ghost use Rattle.mcs_turns.specs.Mail.{brought};
 
 use crate::judging::answered;
 use crate::mail::mailed_to;
@@ -13,7 +12,7 @@ use mcs_explore_script::Live;
 use mcs_explore_search::mark_all_led;
 use mcs_lab_check::LabFault;
 use mcs_queues::PlainLines;
-use mcs_turns::{Pick, Reached};
+use mcs_turns::{Pick, Position, Reached};
 use mcs_types::Answer;
 use std::alloc::Global;
 use std::marker::Model;
@@ -82,14 +81,14 @@ fn is_about(live: Live, pick: Pick) -> bool
 /// Returns whether what reached a thread is what an entry comes to that is asked about.
 fn is_mailed(
     users: &Users,
-    walk: &Walk<PlainLines>,
+    from: &[Position],
     turn: Turn,
     live: Live,
     reached: &Reached,
 ) -> bool
-    ensures { result ≡ is_mailed users.now walk.now turn live reached.now }
+    ensures { result ≡ is_mailed users.now from.now turn live reached.now }
 {
-    match mailed_to(users, walk, turn, reached) {
+    match mailed_to(users, from, turn, reached) {
         Some(pick) => is_about(live, pick),
         None => false,
     }
@@ -105,15 +104,15 @@ fn is_waits(answer: &Answer) -> bool
 /// Returns whether one of those that something reached by a turn is asked about.
 fn any_is_mailed(
     users: &Users,
-    walk: &Walk<PlainLines>,
+    from: &[Position],
     turn: Turn,
     live: Live,
     all: &[Reached],
 ) -> bool
-    ensures { result ≡ list_any (is_mailed users.now walk.now turn live) all.now }
+    ensures { result ≡ list_any (is_mailed users.now from.now turn live) all.now }
 {
     all.iter()
-        .any(|reached| is_mailed(users, walk, turn, live, reached))
+        .any(|reached| is_mailed(users, from, turn, live, reached))
 }
 
 /// Adds a mark to the end.
@@ -169,21 +168,20 @@ impl Notes {
     }
 }
 
-/// Returns whether a turn answers an entry that is asked about: its own, or one that waited. This
-/// is what it brought to threads.
+/// Returns whether a turn from these positions, which brought this to threads, answers an entry that
+/// is asked about: its own, or one that waited.
 fn answers(
     users: &Users,
-    walk: &Walk<PlainLines>,
+    live: Live,
     turn: Turn,
     answer: &Answer,
+    from: &[Position],
     all: &[Reached],
-    live: Live,
 ) -> bool
-    requires { all.now ≡ brought walk.now.book }
-    ensures { result ≡ answers users.now live turn answer.now walk.now }
+    ensures { result ≡ answers users.now live turn answer.now from.now all.now }
 {
     let is_own = is_about(live, turn.pick) && !is_waits(answer);
-    is_own || any_is_mailed(users, walk, turn, live, all)
+    is_own || any_is_mailed(users, from, turn, live, all)
 }
 
 /// No note of so many questions.
@@ -224,16 +222,15 @@ fn note_turns(
     place: usize,
     turn: Turn,
     answer: &Answer,
-    walk: &Walk<PlainLines>,
+    from: &[Position],
     all: &[Reached],
 ) -> Result<(), OrdersFault>
-    requires { all.now ≡ brought walk.now.book }
-    ensures { OnOk result (AreNotedOn (with_made users.now place turn answer.now walk.now)
+    ensures { OnOk result (AreNotedOn (with_made users.now place turn answer.now from.now all.now)
         lives.now notes.old.items notes.new.items) }
 {
     for number in 0..notes.len() {
         if let Some(live) = lives.get(number) {
-            let is_answer = answers(users, walk, turn, answer, all, *live);
+            let is_answer = answers(users, *live, turn, answer, from, all);
             notes[number].note_turn(place, is_answer)?;
         }
     }
@@ -293,12 +290,12 @@ impl<'a> Lives<'a> {
         place: usize,
         turn: Turn,
         answer: &Answer,
-        walk: &Walk<PlainLines>,
+        from: &[Position],
         all: &[Reached],
     ) -> Result<(), OrdersFault>
-        requires { all.now ≡ brought walk.now.book }
         ensures lives { self.new.lives ≡ self.old.lives }
-        ensures notes { OnOk result (AreNotedOn (with_made users.now place turn answer.now walk.now)
+        ensures notes { OnOk result (AreNotedOn
+            (with_made users.now place turn answer.now from.now all.now)
             self.old.lives self.old.notes self.new.notes) }
     {
         note_turns(
@@ -308,7 +305,7 @@ impl<'a> Lives<'a> {
             place,
             turn,
             answer,
-            walk,
+            from,
             all,
         )
     }

@@ -8,7 +8,7 @@ use mcs_book::Line;
 use mcs_explore_orders::{OrdersFault, Turn, Users, Walk};
 use mcs_explore_walk::newest;
 use mcs_queues::PlainLines;
-use mcs_turns::{Pick, Reached};
+use mcs_turns::{Pick, Position, Reached};
 use mcs_types::{Answer, Badge, Mode, ObjId, Rec};
 use mcs_users::is_send_at;
 use std::alloc::Global;
@@ -124,27 +124,29 @@ fn comes_to(users: &Users, user: usize, number: usize, answer: &Answer) -> bool
     }
 }
 
-/// The number of the entry with which a user waited, behind a turn of another user.
-fn waiting(walk: &Walk<PlainLines>, user: usize, turn: Turn) -> Option<usize>
-    ensures { result ≡ waiting walk.now user turn }
+/// Returns the number of the entry with which a user waited before a turn of another user, by how
+/// far the users were then.
+fn waiting(from: &[Position], user: usize, turn: Turn) -> Option<usize>
+    ensures { result ≡ waiting from.now user turn }
 {
     if user == turn.pick.user {
         return None;
     }
-    walk.place(user)?.waited
+    from.get(user)?.waited
 }
 
-/// The entry of a user that waited and comes to what reached its thread, if there is one.
+/// Returns the entry of a user that waited before a turn and comes to what reached its thread by it,
+/// if there is one.
 pub fn mailed_to(
     users: &Users,
-    walk: &Walk<PlainLines>,
+    from: &[Position],
     turn: Turn,
     reached: &Reached,
 ) -> Option<Pick>
-    ensures { result ≡ mailed_to users.now walk.now turn reached.now }
+    ensures { result ≡ mailed_to users.now from.now turn reached.now }
 {
     let user = users.find(reached.thread)?;
-    let number = waiting(walk, user, turn)?;
+    let number = waiting(from, user, turn)?;
     if comes_to(users, user, number, &reached.answer) {
         Some(Pick { user, number })
     } else {
@@ -156,15 +158,15 @@ pub fn mailed_to(
 fn note_reached(
     answers: &mut Answers,
     users: &Users,
-    walk: &Walk<PlainLines>,
+    from: &[Position],
     reached: &Reached,
     place: usize,
     turn: Turn,
 ) -> Result<(), OrdersFault>
-    ensures { OnOk result (IsNotedMail users.now walk.now place turn
+    ensures { OnOk result (IsNotedMail users.now from.now place turn
         reached.now answers.old answers.new) }
 {
-    match mailed_to(users, walk, turn, reached) {
+    match mailed_to(users, from, turn, reached) {
         Some(entry) => answers.note(entry.user, entry.number, &reached.answer, place, turn),
         None => Ok(()),
     }
@@ -175,16 +177,16 @@ fn note_reached(
 pub fn note_mail(
     answers: &mut Answers,
     users: &Users,
-    walk: &Walk<PlainLines>,
+    from: &[Position],
     all: &[Reached],
     place: usize,
     turn: Turn,
 ) -> Result<(), OrdersFault>
-    ensures { OnOk result (AreNotedMail users.now walk.now place turn
+    ensures { OnOk result (AreNotedMail users.now from.now place turn
         all.now answers.old answers.new) }
 {
     for reached in all {
-        note_reached(answers, users, walk, reached, place, turn)?;
+        note_reached(answers, users, from, reached, place, turn)?;
     }
     Ok(())
 }

@@ -12,6 +12,7 @@ use mcs_explore_script::{AskedLine, Live};
 use mcs_lab_check::LabFault;
 use mcs_queues::PlainLines;
 use mcs_trace::Line;
+use mcs_turns::Position;
 use mcs_types::Answer;
 use std::alloc::Global;
 
@@ -128,6 +129,7 @@ impl<P: Progress> Watch for Watched<'_, P> {
         place: usize,
         turn: Turn,
         answer: &Answer,
+        from: &[Position],
         walk: &Walk<PlainLines>,
     ) -> Result<(), OrdersFault> {
         let seen = Sighting {
@@ -144,8 +146,9 @@ impl<P: Progress> Watch for Watched<'_, P> {
         );
         self.answers.note_turn(answer, place, turn)?;
         let all = brought(self.alloc, walk)?;
-        note_mail(&mut self.answers, users, walk, &all, place, turn)?;
-        self.lives.see_turn(users, place, turn, answer, walk, &all)
+        note_mail(&mut self.answers, users, from, &all, place, turn)?;
+        self.lives
+            .see_turn(users, place, turn, answer, from, &all)
     }
 
     fn goes_on(&self) -> bool {

@@ -3,6 +3,7 @@ use Rattle.std.specs.Prelude.{ℕ, ◌≡◌, ◌<◌, ◌-◌, ◌⊎◌, ◌&&
 use Rattle.std.specs.List.{list_all, list_any}
 use Rattle.std.proofs.Common.{refl, ap, sym, ◌∙◌, subst, inl, inr, arith}
 use Rattle.mcs_book.specs.Boots.{Boot}
+use Rattle.mcs_turns.specs.declared.position.Position.{Position}
 use Rattle.mcs_turns.specs.Turns.{User, Going}
 use Rattle.mcs_explore_walk.specs.declared.walk.Turn.{Turn}
 use Rattle.mcs_explore_walk.specs.Walks.{last_answer}
@@ -69,10 +70,10 @@ module _ (s : UserScript) (kinds : List Kind) (tables : Tables) (failed : List (
       let run = of.are.states end.number end.sight end.at in
       record { turns = run.turns; state = end.sight.going; run = run.run; over = run.over end.over; lacks = ap (lacks e) end.standing ∙ it.lacks }
 
-  answered : (user number : ℕ) (t : Told) (m : Made) → last_answer m.going.book ≡ Some m.answer → m.turn ≡ t.turn → IsOwnAnswer m user number t.answer ⊎ IsMailed s.users m.going user number m.turn t.answer
-      → IsAnswered t.turn m.going user number t.answer ⊎ IsMailed s.users m.going user number t.turn t.answer
+  answered : (user number : ℕ) (t : Told) (m : Made) → last_answer m.going.book ≡ Some m.answer → m.turn ≡ t.turn → IsOwnAnswer m user number t.answer ⊎ IsMailed s.users m.from m.going user number m.turn t.answer
+      → IsAnswered t.turn m.going user number t.answer ⊎ IsMailed s.users m.from m.going user number t.turn t.answer
   answered user number t m last same (inl own) = inl (subst (λ (u : Turn). IsAnswered u m.going user number t.answer) same (record { user = own.user; number = own.number; answer = last ∙ ap (λ a. Some a) own.answer }))
-  answered user number t m last same (inr mail) = inr (subst (λ (u : Turn). IsMailed s.users m.going user number u t.answer) same mail)
+  answered user number t m last same (inr mail) = inr (subst (λ (u : Turn). IsMailed s.users m.from m.going user number u t.answer) same mail)
 
   -- an answer that is kept came in a run
   said-once : (e : Event) (pattern : List ℕ) (wanted : Bool) (seen : Sighting) → IsFoundIn (answers_of s.users tables e) pattern wanted seen → SomeAnswerIs s.users s.boot e pattern wanted
@@ -96,7 +97,7 @@ module _ (s : UserScript) (kinds : List Kind) (tables : Tables) (failed : List (
             going = a.made.going;
             leads = subst (λ (u : Turn). Leads s.users u run.state a.made.going) a.turn run.turn.leads;
             answer = it.one.answer;
-            is = answered user (e.number - 1) it.one a.made run.turn.answer a.turn a.is;
+            is = subst (λ (ps : List Position). IsAnswered it.one.turn a.made.going user (e.number - 1) it.one.answer ⊎ IsMailed s.users ps a.made.going user (e.number - 1) it.one.turn it.one.answer) run.turn.from (answered user (e.number - 1) it.one a.made run.turn.answer a.turn a.is);
             said = it.is;
           }
 

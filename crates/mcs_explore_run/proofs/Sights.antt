@@ -43,12 +43,12 @@ sees-state (Ok x) Has old new users place g over is sees = λ boot n run seen. r
 
 -- a turn from a state of a run is
 pub sees-turn : {W E : Type 0} (r : Result (Unit {0}) E) (Has : W → List User → Shown → Type 0) (old new : W) (users : List User) (place : ℕ) (t : Turn) (a : Answer) (g h : Going) → Leads users t g h → last_answer h.book ≡ Some a
-    → OnOk r (SeesTurn Has old new users place t a h) → OnOk r (SeesFrom Has old new users g)
+    → OnOk r (SeesTurn Has old new users place t a g.places h) → OnOk r (SeesFrom Has old new users g)
 sees-turn (Err e) Has old new users place t a g h leads answer sees = tt
 sees-turn (Ok x) Has old new users place t a g h leads answer sees = λ boot n run seen. record {
-  shown = with_turn place t a h seen.shown;
+  shown = with_turn place t a g.places h seen.shown;
   has = sees seen.shown seen.has;
-  are = turn-more users boot seen.shown (record { place = place; turn = t; answer = a; going = h }) (record { turns = n; state = g; run = run; turn = record { leads = leads; answer = answer } }) seen.are;
+  are = turn-more users boot seen.shown (record { place = place; turn = t; answer = a; from = g.places; going = h }) (record { turns = n; state = g; run = run; turn = record { leads = leads; from = refl; answer = answer } }) seen.are;
 }
 
 -- before anything is shown

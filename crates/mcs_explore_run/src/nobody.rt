@@ -1,6 +1,7 @@
 //! A watch that keeps nothing.
 use mcs_explore_orders::{OrdersFault, Turn, Users, Walk, Watch};
 use mcs_queues::PlainLines;
+use mcs_turns::Position;
 use mcs_types::Answer;
 
 /// Keeps nothing of what it is shown.
@@ -30,6 +31,7 @@ impl Watch for Nobody {
         _place: usize,
         _turn: Turn,
         _answer: &Answer,
+        _from: &[Position],
         _walk: &Walk<PlainLines>,
     ) -> Result<(), OrdersFault> {
         Ok(())

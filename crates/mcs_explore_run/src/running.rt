@@ -64,8 +64,9 @@ fn make_turn<W: Watch>(
     ensures aim { OnOk result (W.aim watch.new ≡ W.aim watch.old) }
     ensures sees { OnOk result (SeesFrom W.HasSeen watch.old watch.new users.now walk.old) }
 {
+    let from = Vec::from_slice(alloc, walk.places())?;
     match walk.turn(alloc, users, picks, turn)? {
-        Some(answer) => watch.see_turn(users, number, turn, &answer, walk),
+        Some(answer) => watch.see_turn(users, number, turn, &answer, &from, walk),
         None => unreachable!(),
     }
 }

@@ -19,7 +19,7 @@ use mcs_kernel::{Boot, EnterFault, Kernel};
 use mcs_queues::Lines;
 use mcs_turns::{Pick, Position, Saved, filled};
 use mcs_types::{Answer, CoreId, Entry, ObjId, OutOfMemory, Status, copy_rows};
-use mcs_users::{Picks, UserList, Users, current, first_place, place_behind};
+use mcs_users::{Picks, UserList, Users, first_place, place_behind};
 use std::alloc::Global;
 use std::marker::Model;
 
@@ -223,6 +223,13 @@ impl<L: Lines> Walk<L> {
         &self.kernel
     }
 
+    /// How far each user is.
+    pub fn places(&self) -> &[Position]
+        ensures { result.now ≡ self.now.places }
+    {
+        self.places.as_slice()
+    }
+
     /// How far the user in a place is.
     pub fn place(&self, user: usize) -> Option<Position>
         ensures { result ≡ slice_get self.now.places user }
@@ -245,7 +252,7 @@ impl<L: Lines> Walk<L> {
         let list = users.at(user)?;
         let place = self.place(user)?;
         let status = self.kernel.status(list.thread);
-        let number = current(list, place).due(status);
+        let number = place.due(status);
         if number >= list.entries.len() {
             return None;
         }

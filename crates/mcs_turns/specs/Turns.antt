@@ -54,19 +54,9 @@ pub record Going : Type 0 where
   pub places : List Position
   pub stale : List (List Pick)
 
--- the entry with which a user waits, if it was not told what came of it: a program that was told
--- knows which it gives next, or that it stops
-abbrev pub waits_with : List Op → ℕ → Position → Option ℕ
-waits_with [] entries p = p.waited
-waits_with (o ∷ os) entries p = cond (nat_lt entries p.next) p.waited None
-
--- the position of a user by which it gives its next entry
-abbrev pub current : User → Position → Position
-current u p = record p { waited = waits_with u.ops (length u.entries) p }
-
 -- the number of the entry that a user gives now
 abbrev pub due : Log → User → Position → ℕ
-due R u p = due_by (status_of R u.thread) (current u p)
+due R u p = due_by (status_of R u.thread) p
 
 -- the user of the number i has an entry left, and its thread may enter on the core
 pub record CanGive (users : List User) (g : Going) (core : CoreId) (i : ℕ) (u : User) (p : Position) : Type 0 where
@@ -127,10 +117,11 @@ abbrev pub again_by : Option ℕ → ℕ → ℕ → ℕ
 again_by None entries next = next
 again_by (Some first) entries next = cond (nat_lt next entries) next first
 
--- where a program goes on from a position; where there is none, that position
+-- where a program goes on from a position, which waits with nothing; where there is none, that
+-- position
 abbrev pub gone_on : Option Settled → User → Position → Position
 gone_on None u p = p
-gone_on (Some x) u p = record p { next = unwrap_or x.number (length u.entries); saved = x.saved }
+gone_on (Some x) u p = record { next = unwrap_or x.number (length u.entries); waited = None; saved = x.saved }
 
 -- the first position of a user
 abbrev pub started : User → Position

@@ -9,5 +9,5 @@ mod users;
 
 pub use lists::UserList;
 pub use picks::Picks;
-pub use places::{current, first_place, is_send_at, place_behind, place_told};
+pub use places::{first_place, is_send_at, place_behind, place_told};
 pub use users::Users;

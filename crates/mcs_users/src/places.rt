@@ -1,7 +1,7 @@
 //! Where users are: a list goes from entry to entry, a program by what its last entry was told.
 ghost use Rattle.std.specs.Prelude.{◌≡◌, ◌<◌, length, slice_get};
 ghost use Rattle.mcs_turns.specs.Programs.{goes_on};
-ghost use Rattle.mcs_turns.specs.Turns.{behind, comes_of, gone_on, current, is_send_at, listed_behind, started, told, waiting_behind, waits_with};
+ghost use Rattle.mcs_turns.specs.Turns.{behind, comes_of, gone_on, is_send_at, listed_behind, started, told, waiting_behind};
 
 use crate::lists::UserList;
 use mcs_turns::{Position, Saved, Settled, Told, goes_on, starts};
@@ -20,7 +20,7 @@ fn gone_on(settled: Option<Settled>, user: &UserList, place: Position) -> Positi
     };
     Position {
         next,
-        waited: place.waited,
+        waited: None,
         saved: settled.saved,
     }
 }
@@ -69,29 +69,6 @@ fn waiting_behind(user: &UserList, number: usize, saved: Saved) -> Position
         next: user.entries.len() + 1,
         waited: place.waited,
         saved,
-    }
-}
-
-/// The entry with which a user waits, if it was not told what came of it.
-fn waits_with(user: &UserList, place: Position) -> Option<usize>
-    ensures { result ≡ waits_with user.now.ops (length user.now.entries) place }
-{
-    if user.ops.is_empty() || user.entries.len() < place.next {
-        place.waited
-    } else {
-        None
-    }
-}
-
-/// The position of a user by which it gives its next entry: a program that was told what came of
-/// the entry with which it waited does not give that again.
-pub fn current(user: &UserList, place: Position) -> Position
-    ensures { result ≡ current user.now place }
-{
-    Position {
-        next: place.next,
-        waited: waits_with(user, place),
-        saved: place.saved,
     }
 }
 
