@@ -16,8 +16,8 @@ pub record Sight : Type 0 where
   pub going : Going
   pub is_over : Bool
 
--- a turn from the state in a place, what it was answered, how far the users were before it, and what
--- is after it
+-- a turn from the state in a place, what it was answered, how far the users were before it, and the
+-- state after it
 pub record Made : Type 0 where
   pub place : ℕ
   pub turn : Turn

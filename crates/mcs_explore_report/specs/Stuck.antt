@@ -50,8 +50,8 @@ abbrev pub is_waits : Answer → Bool
 is_waits answer.Waits = true
 is_waits _ = false
 
--- whether a turn from these positions, which brought this to threads, answers an entry that is asked
--- about: its own, or one that waited
+-- whether a turn from these positions, which brought this to threads, answers an entry that is
+-- asked about: its own, or one that waited
 abbrev pub answers : List User → Live → Turn → Answer → List Position → List Reached → Bool
 answers users l t a from rs = (is_about l t.pick && not (is_waits a)) || list_any (is_mailed users from t l) rs
 

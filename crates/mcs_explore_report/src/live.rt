@@ -168,8 +168,8 @@ impl Notes {
     }
 }
 
-/// Returns whether a turn from these positions, which brought this to threads, answers an entry that
-/// is asked about: its own, or one that waited.
+/// Returns whether a turn from these positions, which brought this to threads, answers an entry
+/// that is asked about: its own, or one that waited.
 fn answers(
     users: &Users,
     live: Live,

@@ -135,8 +135,8 @@ fn waiting(from: &[Position], user: usize, turn: Turn) -> Option<usize>
     from.get(user)?.waited
 }
 
-/// Returns the entry of a user that waited before a turn and comes to what reached its thread by it,
-/// if there is one.
+/// Returns the entry of a user that waited before a turn and comes to what reached its thread by
+/// it, if there is one.
 pub fn mailed_to(
     users: &Users,
     from: &[Position],
