@@ -1,5 +1,5 @@
 pub mod SameStanding
-mod Lists
+pub mod Lists
 pub mod Noting
 pub mod Telling
 pub mod Keeping

@@ -1,5 +1,6 @@
 -- Places in lists.
-use Rattle.std.specs.Prelude.{ℕ, zero, suc, ◌≡◌, ◌<◌, ◌+◌, ◌++◌, ◌⊎◌, List, [], ◌∷◌, Some, drop, length, set, slice_get}
+use Rattle.std.specs.Prelude.{ℕ, zero, suc, ◌≡◌, ◌<◌, ◌+◌, ◌++◌, ◌&&◌, ◌⊎◌, Bool, true, false, List, [], ◌∷◌, Some, drop, length, set, slice_get}
+use Rattle.std.specs.List.{list_all}
 use Rattle.std.proofs.Common.{refl, ap, ◌∙◌, inl, inr, arith}
 
 pub some-same : {A : Type 0} (x y : A) → Some x ≡ Some y → x ≡ y
@@ -76,3 +77,26 @@ same-lists [] (y ∷ ys) long each = absurd (omega (arith, long))
 same-lists (x ∷ xs) [] long each = absurd (omega (arith, long))
 same-lists {A} (x ∷ xs) (y ∷ ys) long each =
     ap (λ (z : A). z ∷ xs) (each 0 x y refl refl) ∙ ap (λ (zs : List A). y ∷ zs) (same-lists xs ys (omega (arith, long)) (λ i u v a b. each (suc i) u v a b))
+
+-- one of a list is not so
+pub record SomeNot {A : Type 0} (f : A → Bool) (xs : List A) : Type 0 where
+  pub place : ℕ
+  pub one : A
+  pub at : slice_get xs place ≡ Some one
+  pub is : f one ≡ false
+
+not-first : (b c : Bool) → b ≡ true → (b && c) ≡ false → c ≡ false
+not-first true c is none = none
+not-first false c is none = absurd cc
+
+some-next : {A : Type 0} (f : A → Bool) (x : A) (xs : List A) → SomeNot f xs → SomeNot f (x ∷ xs)
+some-next f x xs n = record { place = suc n.place; one = n.one; at = n.at; is = n.is }
+
+-- where not all are so, one is not
+pub some-not : {A : Type 0} (f : A → Bool) (xs : List A) → list_all f xs ≡ false → SomeNot f xs
+some-not f [] all = absurd cc
+some-not f (x ∷ xs) all = by (f x) refl (λ rest. some-not f xs rest)
+  where
+    by : (b : Bool) → f x ≡ b → (list_all f xs ≡ false → SomeNot f xs) → SomeNot f (x ∷ xs)
+    by false is more = record { place = zero; one = x; at = refl; is = is }
+    by true is more = some-next f x xs (more (not-first (f x) (list_all f xs) is all))

@@ -27,31 +27,8 @@ use Rattle.mcs_explore_report.specs.Standings.{standings}
 use Rattle.mcs_explore_report.specs.Stuck.{AreStuckUnled, Noted}
 use Rattle.mcs_explore_report.specs.Verdicts.{IsAlways, IsFoundIn, IsSearched, IsWithout, answers_of, failed_at, lacks}
 use Rattle.mcs_explore_report.proofs.Holding.{all-said, at-run, said-once}
-use Rattle.mcs_explore_report.proofs.Lists.{at-within, some-same, within-at}
+use Rattle.mcs_explore_report.proofs.Lists.{at-within, some-not, some-same, within-at}
 use Rattle.mcs_explore_report.proofs.Stuck.{first-marks-long}
-
--- one of a list is not so
-record SomeNot {A : Type 0} (f : A → Bool) (xs : List A) : Type 0 where
-  place : ℕ
-  one : A
-  at : slice_get xs place ≡ Some one
-  is : f one ≡ false
-
-not-first : (b c : Bool) → b ≡ true → (b && c) ≡ false → c ≡ false
-not-first true c is none = none
-not-first false c is none = absurd cc
-
-some-next : {A : Type 0} (f : A → Bool) (x : A) (xs : List A) → SomeNot f xs → SomeNot f (x ∷ xs)
-some-next f x xs n = record { place = suc n.place; one = n.one; at = n.at; is = n.is }
-
--- where not all are so, one is not
-some-not : {A : Type 0} (f : A → Bool) (xs : List A) → list_all f xs ≡ false → SomeNot f xs
-some-not f [] all = absurd cc
-some-not f (x ∷ xs) all = by (f x) refl (λ rest. some-not f xs rest)
-  where
-    by : (b : Bool) → f x ≡ b → (list_all f xs ≡ false → SomeNot f xs) → SomeNot f (x ∷ xs)
-    by false is more = record { place = zero; one = x; at = refl; is = is }
-    by true is more = some-next f x xs (more (not-first (f x) (list_all f xs) is all))
 
 some-of : {A : Type 0} (o : Option A) → is_none o ≡ false → (x : A) × (o ≡ Some x)
 some-of None h = absurd cc

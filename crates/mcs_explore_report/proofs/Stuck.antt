@@ -299,7 +299,7 @@ module _ {K : Type 0} (numbered : Bool) (users : List User) (boot : Boot) (whole
           (
             subst (λ (x : Going). Leads users m.one.turn x m.one.going) going made.turn.leads,
             ap (λ (x : Option Answer). elim x [ None ↦ false | Some a ↦ answers users l m.one.turn a g.places (brought m.one.going.book) ]) made.turn.answer
-            ∙ ap (λ (ps : List Position). answers users l m.one.turn m.one.answer ps (brought m.one.going.book)) (sym (made.turn.from ∙ ap (λ (x : Going). x.places) going)) ∙ m.is,
+                ∙ ap (λ (ps : List Position). answers users l m.one.turn m.one.answer ps (brought m.one.going.book)) (sym (made.turn.from ∙ ap (λ (x : Going). x.places) going)) ∙ m.is,
           ),
         ),
       )

@@ -70,7 +70,15 @@ fn rule_text(rule: Rule) -> &'static str {
 pub fn rule_set(line: &AskedLine) -> Option<&'static str> {
     match &line.asked {
         Asked::Ruled { rule } => Some(rule_text(*rule)),
-        _ => None,
+        Asked::Idle { .. }
+        | Asked::Live { .. }
+        | Asked::Answer { .. }
+        | Asked::AnswerIf { .. }
+        | Asked::Some { .. }
+        | Asked::Never { .. }
+        | Asked::Apart { .. }
+        | Asked::Before { .. }
+        | Asked::Again { .. } => None,
     }
 }
 

@@ -312,7 +312,7 @@ fn put_questions<P: Progress>(page: &mut Page, report: &Report<'_, P>) -> Result
 }
 
 /// Puts the rules of users that the lines of a script set as a member, where there are some.
-fn put_rules(page: &mut Page, asked: &[AskedLine]) {
+fn put_rules_member(page: &mut Page, asked: &[AskedLine]) {
     if !asked.iter().any(|line| rule_set(line).is_some()) {
         return;
     }
@@ -334,7 +334,7 @@ fn put_counts<P: Progress>(page: &mut Page, findings: &Findings<'_, P>) {
     page.count_member("depth", orders.deepest());
     page.count_member("ends", count_of(findings.ends.kinds()));
     page.flag_member("whole", orders.is_whole());
-    put_rules(page, &findings.script.asked);
+    put_rules_member(page, &findings.script.asked);
 }
 
 /// Puts the names of the objects of the boot as a member, where there are some.

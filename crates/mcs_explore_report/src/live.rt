@@ -79,13 +79,7 @@ fn is_about(live: Live, pick: Pick) -> bool
 }
 
 /// Returns whether what reached a thread is what an entry comes to that is asked about.
-fn is_mailed(
-    users: &Users,
-    from: &[Position],
-    turn: Turn,
-    live: Live,
-    reached: &Reached,
-) -> bool
+fn is_mailed(users: &Users, from: &[Position], turn: Turn, live: Live, reached: &Reached) -> bool
     ensures { result ≡ is_mailed users.now from.now turn live reached.now }
 {
     match mailed_to(users, from, turn, reached) {
@@ -102,13 +96,7 @@ fn is_waits(answer: &Answer) -> bool
 }
 
 /// Returns whether one of those that something reached by a turn is asked about.
-fn any_is_mailed(
-    users: &Users,
-    from: &[Position],
-    turn: Turn,
-    live: Live,
-    all: &[Reached],
-) -> bool
+fn any_is_mailed(users: &Users, from: &[Position], turn: Turn, live: Live, all: &[Reached]) -> bool
     ensures { result ≡ list_any (is_mailed users.now from.now turn live) all.now }
 {
     all.iter()

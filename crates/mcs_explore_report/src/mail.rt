@@ -137,12 +137,7 @@ fn waiting(from: &[Position], user: usize, turn: Turn) -> Option<usize>
 
 /// Returns the entry of a user that waited before a turn and comes to what reached its thread by
 /// it, if there is one.
-pub fn mailed_to(
-    users: &Users,
-    from: &[Position],
-    turn: Turn,
-    reached: &Reached,
-) -> Option<Pick>
+pub fn mailed_to(users: &Users, from: &[Position], turn: Turn, reached: &Reached) -> Option<Pick>
     ensures { result ≡ mailed_to users.now from.now turn reached.now }
 {
     let user = users.find(reached.thread)?;

@@ -147,8 +147,7 @@ impl<P: Progress> Watch for Watched<'_, P> {
         self.answers.note_turn(answer, place, turn)?;
         let all = brought(self.alloc, walk)?;
         note_mail(&mut self.answers, users, from, &all, place, turn)?;
-        self.lives
-            .see_turn(users, place, turn, answer, from, &all)
+        self.lives.see_turn(users, place, turn, answer, from, &all)
     }
 
     fn goes_on(&self) -> bool {

@@ -29,31 +29,8 @@ use Rattle.mcs_explore_report.specs.Judging.{fails}
 use Rattle.mcs_explore_report.specs.Standings.{standings}
 use Rattle.mcs_explore_report.specs.Verdicts.{IsAlways, IsFoundIn, IsSearched, IsWithout, answers_of, failed_at, lacks}
 use Rattle.std.proofs.lemmas.Option.{slice_get_within}
-use Rattle.mcs_explore_run.proofs.Places.{within-at}
+use Rattle.mcs_explore_report.proofs.Lists.{some-not, within-at}
 use Rattle.mcs_explore_run.specs.Samples.{HasShownFailure, IsKeptOfRuns, IsShownToFail}
-
--- one of a list is not so
-record SomeNot {A : Type 0} (f : A → Bool) (xs : List A) : Type 0 where
-  place : ℕ
-  one : A
-  at : slice_get xs place ≡ Some one
-  is : f one ≡ false
-
-not-first : (b c : Bool) → b ≡ true → (b && c) ≡ false → c ≡ false
-not-first true c is none = none
-not-first false c is none = absurd cc
-
-some-next : {A : Type 0} (f : A → Bool) (x : A) (xs : List A) → SomeNot f xs → SomeNot f (x ∷ xs)
-some-next f x xs n = record { place = suc n.place; one = n.one; at = n.at; is = n.is }
-
--- where not all are so, one is not
-some-not : {A : Type 0} (f : A → Bool) (xs : List A) → list_all f xs ≡ false → SomeNot f xs
-some-not f [] all = absurd cc
-some-not f (x ∷ xs) all = by (f x) refl (λ rest. some-not f xs rest)
-  where
-    by : (b : Bool) → f x ≡ b → (list_all f xs ≡ false → SomeNot f xs) → SomeNot f (x ∷ xs)
-    by false is more = record { place = zero; one = x; at = refl; is = is }
-    by true is more = some-next f x xs (more (not-first (f x) (list_all f xs) is all))
 
 module _ (s : UserScript) (kinds : List Kind) (tables : Tables) (failed : List (Option Sighting)) (of : IsKeptOfRuns s.users s.boot s.asked.items kinds tables failed) where
   -- a kind of end that is not idle is a bad end

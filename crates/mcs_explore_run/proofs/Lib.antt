@@ -2,5 +2,4 @@ mod Draws
 mod Failing
 mod Judging
 mod Lengths
-mod Places
 mod Sights

@@ -1,19 +1,9 @@
-//! Lists that grow and are copied.
-ghost use Rattle.std.specs.Prelude.{◌≡◌, ◌∷◌, ◌++◌, [], IfOk, OnOk};
+//! Lists that are copied.
+ghost use Rattle.std.specs.Prelude.{◌≡◌, IfOk};
 
 use mcs_types::OutOfMemory;
-use mcs_users::Picks;
+use mcs_users::{Picks, push};
 use std::alloc::Global;
-
-/// Adds an element to the end. OutOfMemory where a growth was refused.
-pub(crate) fn push<T: Drop>(items: &mut Vec<T>, item: T) -> Result<(), OutOfMemory>
-    ensures { OnOk result (items.new.items ≡ items.old.items ++ item ∷ []) }
-{
-    match items.push(item) {
-        Ok(()) => Ok(()),
-        Err(_) => Err(OutOfMemory),
-    }
-}
 
 /// The same picks of each core once more. OutOfMemory where memory was refused.
 pub(crate) fn copy_all(alloc: Global, all: &[Picks]) -> Result<Vec<Picks>, OutOfMemory>

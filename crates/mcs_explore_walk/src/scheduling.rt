@@ -6,13 +6,12 @@ ghost use Rattle.mcs_turns.specs.declared.position.Pick.{Pick};
 ghost use Rattle.mcs_turns.specs.Turns.{ArePicks, ArePicksOf, CanBePicked};
 ghost use Rattle.mcs_explore_walk.specs.Walks.{EntersSomewhere, IsBest, IsBestOf, IsOffer, best_at};
 
-use crate::copies::push;
 use crate::walk::{Offer, Walk, priority_of};
 use mcs_kernel::Kernel;
 use mcs_queues::Lines;
 use mcs_turns::{Pick, Schedule};
 use mcs_types::{CoreId, ObjId, OutOfMemory};
-use mcs_users::{Picks, UserList, Users};
+use mcs_users::{Picks, UserList, Users, push};
 use std::alloc::Global;
 
 /// The best of a core among those of all; None where there is no such core.

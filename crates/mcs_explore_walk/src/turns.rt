@@ -3,12 +3,11 @@ ghost use Rattle.std.specs.Prelude.{◌≡◌, ◌∷◌, ◌++◌, [], map, IfO
 ghost use Rattle.mcs_turns.specs.Turns.{ArePicks};
 ghost use Rattle.mcs_explore_walk.specs.Walks.{ArePicked, HasEachTurn, is_other, stale_turns, turn_of, turns_below, turns_of, turns_on};
 
-use crate::copies::push;
 use crate::walk::{Turn, Walk, has, picked};
 use mcs_queues::Lines;
 use mcs_turns::Pick;
 use mcs_types::{CoreId, OutOfMemory};
-use mcs_users::{Picks, Users};
+use mcs_users::{Picks, Users, push};
 use std::alloc::Global;
 
 /// Whether this is none of these picks.

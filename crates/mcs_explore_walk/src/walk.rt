@@ -12,14 +12,14 @@ ghost use Rattle.mcs_turns.specs.Mail.{brought};
 ghost use Rattle.mcs_turns.specs.Turns.{Going, IsStale, ArePicks, IsOver, IsTurn, Follows, all_told, beginning, entered, put_at, saved_at, started};
 ghost use Rattle.mcs_explore_walk.specs.Walks.{AreBest, AreBestBelow, EntersSomewhere, HasEachTurn, HasNoTurn, IsBestBelow, IsEntrant, IsEntryCore, IsOffer, IsPicked, is_let_in, last_answer, left_stale, step_of};
 
-use crate::copies::{copy_all, push};
+use crate::copies::copy_all;
 use crate::fault::{OrdersFault, limit_of};
 use crate::mail::{newest, tell_all};
 use mcs_kernel::{Boot, EnterFault, Kernel};
 use mcs_queues::Lines;
 use mcs_turns::{Pick, Position, Saved, filled};
 use mcs_types::{Answer, CoreId, Entry, ObjId, OutOfMemory, Status, copy_rows};
-use mcs_users::{Picks, UserList, Users, first_place, place_behind};
+use mcs_users::{Picks, UserList, Users, first_place, place_behind, push};
 use std::alloc::Global;
 use std::marker::Model;
 

@@ -7,7 +7,7 @@ mod picks;
 mod places;
 mod users;
 
-pub use lists::UserList;
+pub use lists::{UserList, push};
 pub use picks::Picks;
 pub use places::{first_place, is_send_at, place_behind, place_told};
 pub use users::Users;

@@ -38,7 +38,7 @@ impl Model for UserList {
 }
 
 /// Adds an element to the end. OutOfMemory where a growth was refused.
-fn push<T: Drop>(items: &mut Vec<T>, item: T) -> Result<(), OutOfMemory>
+pub fn push<T: Drop>(items: &mut Vec<T>, item: T) -> Result<(), OutOfMemory>
     ensures { OnOk result (items.new.items ≡ items.old.items ++ item ∷ []) }
 {
     match items.push(item) {
