@@ -46,7 +46,7 @@ for command in $commands; do
     for shell in bash zsh fish; do
         grep -q "\b$command\b" $shell || fails "no $command in the completions for $shell"
     done
-    for option in $("$program" "$command" --help | sed -n 's/^ *\(-h, \)\{0,1\}--\([a-z]*\).*/\2/p' | grep -v '^help$'); do
+    for option in $("$program" "$command" --help | sed -n 's/^ *\(-h, \)\{0,1\}--\([a-z-]*\).*/\2/p' | grep -v '^help$'); do
         sed -n "/^\.SS $command\$/,/^\.SS/p" mcslab.1 | grep -q -F "\\-\\-$option" || fails "no --$option of $command in the manual page"
         grep "^ *$command) words=" bash | grep -q -e "--$option\b" || fails "no --$option of $command for bash"
         grep "^ *$command) _arguments" zsh | grep -q -e "--$option\[" || fails "no --$option of $command for zsh"

@@ -25,8 +25,8 @@ for plan in "$data"/gallery/*.plan "$data"/plans/*.plan; do
     "$program" check "$plan" >"$work/verdicts" || { echo "plans.sh: $plan"; cat "$work/verdicts"; exit 1; }
     sed -n 's/^ok [0-9]* - line \([0-9]*\): .*/\1/p' "$work/verdicts" >"$work/lines"
     grep -n '^[[:space:]]*?' "$plan" | cut -d: -f1 | cmp - "$work/lines" || { echo "plans.sh: lines of $plan"; exit 1; }
-    "$program" draw --format mermaid "$kept" | grep -v ': .* = refused\| turned away' >"$work/picture"
-    "$program" draw --format mermaid --plan <"$plan" | grep -v ': .* = refused\| turned away' | cmp - "$work/picture" ||
+    "$program" draw --format mermaid "$kept" | grep -v ': .* = refused\| skipped' >"$work/picture"
+    "$program" draw --format mermaid --plan <"$plan" | grep -v ': .* = refused\| skipped' | cmp - "$work/picture" ||
         { echo "plans.sh: picture of $plan"; exit 1; }
     "$program" draw "$plan" | sed -n 's/^<text class="number" x="100" y="[0-9]*">\([0-9]*\)<.*/\1/p' >"$work/lines"
     grep -nE '^ *[A-Za-z0-9._-]+( on core [0-9]+)? *:|^thread .*passive' "$plan" | cut -d: -f1 >"$work/steps"

@@ -60,7 +60,7 @@ uint32_t mcs_replay(const uint8_t *script, size_t script_length,
                     uint8_t *out, size_t room, mcs_end *end);
 
 /* Takes a line more, with its newline, after a script whose end has not come. The text is what the
- * line adds to the trace: nothing for a line of the boot, a comment, or a step that is turned away;
+ * line adds to the trace: nothing for a line of the boot, a comment, or a step that is skipped;
  * after the first step also the boot. A line of no bytes is the end of the input. The script is
  * replayed for it, so that a run of n steps costs the square of n. A fault of the script before the
  * line is that of the call. `line` may also hold several lines, or part of one. */

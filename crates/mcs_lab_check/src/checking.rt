@@ -151,7 +151,7 @@ impl<W: Write + Drop> Checker<W> {
         match (self.judge.last(), about) {
             (Last::NoStep, _) => self.to.write_all(b" 'no step stands before this line'\n"),
             (Last::Away, About::Answer | About::Record) => {
-                self.to.write_all(b" 'the step was turned away'\n")
+                self.to.write_all(b" 'the step was skipped'\n")
             }
             (Last::LetIn { .. }, About::Answer) => self.put_answer(),
             (Last::LetIn { .. }, About::Record) => self.put_records(),

@@ -1,7 +1,7 @@
 //! The lines of a book as JSON, an object for each.
 use crate::members::{Member, members_of, put_members, put_value, split_word};
 use crate::named::NamesMember;
-use crate::page::Page;
+use crate::page::{Numbers, Page};
 use mcs_lab_check::{
     Judge, LabFault, Last, Names, TakesLines, Told, bare, object_of, queue_of, take_lines,
 };
@@ -46,6 +46,7 @@ fn put_line(alloc: Global, page: &mut Page, sign: u8, line: &[u8]) {
         name: b"kind".as_slice(),
         value: key,
         is_list: false,
+        is_wide: false,
     };
     put_object(
         alloc,
@@ -75,7 +76,7 @@ fn put_step(alloc: Global, page: &mut Page, names: &Names, step: &[u8]) {
     };
     let (key, text) = split_word(behind);
     page.put(b",\"core\":");
-    put_value(page, core);
+    put_value(page, core, false);
     put_thread(page, names, thread);
     page.put(b",\"entry\":");
     page.quoted(key);
@@ -175,9 +176,10 @@ fn put_records(
 
 impl Teller {
     /// Of a script of which nothing is read. The judge is made last, so that no fault lets it go.
-    fn new(alloc: Global) -> Result<Teller, LabFault> {
+    fn new(alloc: Global, numbers: Numbers) -> Result<Teller, LabFault> {
         let spelled = Box::new(alloc, Line::new())?;
-        let page = Page::new(alloc)?;
+        let mut page = Page::new(alloc)?;
+        page.set_numbers(numbers);
         let names = Names::new(alloc);
         let objects = Vec::new(alloc);
         let judge = Judge::new(alloc)?;
@@ -257,13 +259,15 @@ fn write_all<R: Read, W: Write>(
     Ok(true)
 }
 
-/// Writes an object for each line of the book of a script, each on a line of its own.
+/// Writes an object for each line of the book of a script, each on a line of its own, with its
+/// numbers of up to 64 bits in this form.
 pub fn write_json<R: Read, W: Write + Drop>(
     alloc: Global,
     from: &mut Source<R>,
     to: W,
+    numbers: Numbers,
 ) -> Result<bool, LabFault> {
-    let teller = Teller::new(alloc)?;
+    let teller = Teller::new(alloc, numbers)?;
     let mut writer = Writer { teller, to };
     write_all(alloc, from, &mut writer)
 }

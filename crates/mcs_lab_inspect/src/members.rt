@@ -1,6 +1,6 @@
 //! The words of a line as the members of an object of JSON, in the order of their names.
 use crate::page::Page;
-use mcs_lab_forms::{Fields, number_of};
+use mcs_lab_forms::{Field, Fields, number_of};
 use mcs_text::Words;
 use std::alloc::Global;
 
@@ -11,6 +11,18 @@ pub struct Member<'a> {
     pub value: &'a [u8],
     /// Whether each word of its value is an item of a list.
     pub is_list: bool,
+    /// Whether its numbers have up to 64 bits.
+    pub is_wide: bool,
+}
+
+/// Returns whether the numbers of a field have up to 64 bits: those of an address, of an index with
+/// a depth, of a badge, and of a word of a message or a notification. A label has 52, any other
+/// number 8.
+fn is_wide(field: &Field<'_>) -> bool {
+    field.is_looked_up()
+        || field.name == b"badge".as_slice()
+        || field.name == b"word".as_slice()
+        || field.name == b"words".as_slice()
 }
 
 /// Whether a name is before another.
@@ -38,19 +50,20 @@ fn next_behind<'a>(members: &[Member<'a>], name: &[u8]) -> Option<Member<'a>> {
     next
 }
 
-/// Puts a word, or words that are one: a number, `null` for a dash, or a text.
-pub fn put_value(page: &mut Page, text: &[u8]) {
+/// Puts a word, or words that are one: a number, which may be wide, `null` for a dash, or a text.
+pub fn put_value(page: &mut Page, text: &[u8], is_wide: bool) {
     if text == b"-".as_slice() {
-        page.put(b"null");
-    } else if number_of(text).is_some() {
-        page.put(text);
-    } else {
-        page.quoted(text);
+        return page.put(b"null");
+    }
+    match number_of(text) {
+        Some(number) if is_wide => page.wide(number),
+        Some(number) => page.number(number),
+        None => page.quoted(text),
     }
 }
 
 /// Puts words as a list.
-fn put_list(page: &mut Page, text: &[u8]) {
+fn put_list(page: &mut Page, text: &[u8], is_wide: bool) {
     page.put(b"[");
     let mut words = Words::new(text);
     for i in 0..=text.len() {
@@ -58,7 +71,7 @@ fn put_list(page: &mut Page, text: &[u8]) {
             break;
         };
         page.between(i == 0);
-        put_value(page, word);
+        put_value(page, word, is_wide);
     }
     page.put(b"]");
 }
@@ -69,9 +82,9 @@ fn put_member(page: &mut Page, member: Member<'_>, is_first: bool) {
     page.quoted(member.name);
     page.put(b":");
     if member.is_list {
-        put_list(page, member.value);
+        put_list(page, member.value, member.is_wide);
     } else {
-        put_value(page, member.value);
+        put_value(page, member.value, member.is_wide);
     }
 }
 
@@ -140,6 +153,7 @@ fn member_of<'a>(fields: &mut Fields<'static>, text: &'a [u8]) -> (Member<'a>, O
             name: b"more".as_slice(),
             value: text,
             is_list: true,
+            is_wide: true,
         };
         return (more, None);
     };
@@ -152,6 +166,7 @@ fn member_of<'a>(fields: &mut Fields<'static>, text: &'a [u8]) -> (Member<'a>, O
         name: field.name,
         value,
         is_list: field.is_last && field.name == b"words".as_slice(),
+        is_wide: is_wide(&field),
     };
     (member, behind)
 }

@@ -6,12 +6,20 @@ use mcs_types::{ObjId, Queue};
 use std::alloc::{AllocError, Global};
 use std::io::Write;
 
+/// How JSON has numbers of up to 64 bits, of which JavaScript rounds those above 2^53.
+#[derive(Clone, Copy, PartialEq, Eq)]
+pub enum Numbers {
+    Integers,
+    Texts,
+}
+
 /// What was put and is not written yet. Where memory is refused the rest is left out and nothing is
 /// written any more, so the code that puts the text together need not ask.
 #[derive(Drop)]
 pub struct Page {
     text: Vec<u8>,
     word: Box<Line>,
+    numbers: Numbers,
     is_cut: bool,
 }
 
@@ -26,8 +34,14 @@ impl Page {
         Ok(Page {
             text: Vec::new(alloc),
             word: Box::new(alloc, Line::new())?,
+            numbers: Numbers::Integers,
             is_cut: false,
         })
+    }
+
+    /// Sets how `wide` puts numbers from now on: at first as integers.
+    pub fn set_numbers(&mut self, numbers: Numbers) {
+        self.numbers = numbers;
     }
 
     /// Says that memory was refused.
@@ -165,6 +179,14 @@ impl Page {
         self.put(b"\"");
         self.word(token);
         self.put(b"\"");
+    }
+
+    /// Puts a number of a kind that has up to 64 bits.
+    pub fn wide(&mut self, number: u64) {
+        match self.numbers {
+            Numbers::Integers => self.number(number),
+            Numbers::Texts => self.quoted_word(&Token::Number(number)),
+        }
     }
 
     /// Puts an object, or `null`.

@@ -1,5 +1,5 @@
 //! The state of each thread after a line of a script.
-use crate::page::Page;
+use crate::page::{Numbers, Page};
 use crate::stuck::Waits;
 use crate::tables::put_tables;
 use crate::values::put_values;
@@ -11,12 +11,13 @@ use std::alloc::Global;
 use std::io::{Read, Write};
 
 /// Of a state: after which line, whether only what is stuck is shown, and whether it is written as
-/// JSON.
+/// JSON, with which form of numbers.
 #[derive(Clone, Copy)]
 pub struct Wanted {
     pub at: Option<u64>,
     pub stuck: bool,
     pub json: bool,
+    pub numbers: Numbers,
 }
 
 /// A script that is read up to a line.
@@ -112,6 +113,7 @@ pub fn show_state<R: Read, W: Write + Drop>(
     wanted: Wanted,
 ) -> Result<bool, LabFault> {
     let mut page = Page::new(alloc)?;
+    page.set_numbers(wanted.numbers);
     let names = Names::new(alloc);
     let judge = Judge::new(alloc)?;
     let at = wanted.at;

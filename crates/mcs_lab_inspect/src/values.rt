@@ -23,7 +23,7 @@ fn put_words(page: &mut Page, message: &Message) {
     for word in message.words() {
         page.between(is_first);
         is_first = false;
-        page.number(*word);
+        page.wide(*word);
     }
     page.put(b"]");
 }
@@ -57,12 +57,12 @@ impl<'a> Values<'a> {
             None => page.put(b"null"),
             Some(Mail::Word { word }) => {
                 page.put(b"{\"heard\":");
-                page.number(*word);
+                page.wide(*word);
                 page.put(b"}");
             }
             Some(Mail::Message { badge, message }) => {
                 page.put(b"{\"badge\":");
-                page.number(badge.0);
+                page.wide(badge.0);
                 page.put(b",\"label\":");
                 page.number(message.label());
                 page.put(b",");
@@ -94,7 +94,7 @@ impl<'a> Values<'a> {
     /// Puts the threads in a queue, with the message that it sent there.
     fn put_letter(&self, page: &mut Page, thread: ObjId, letter: &Letter) {
         page.put(b"{\"badge\":");
-        page.number(letter.badge.0);
+        page.wide(letter.badge.0);
         page.put(b",\"id\":");
         page.quoted_word(&Token::Name(thread));
         page.put(b",\"label\":");
@@ -221,7 +221,7 @@ impl<'a> Values<'a> {
         page.name_member(self.names, notification);
         page.put(b",\"pending\":");
         match self.kernel.word(notification) {
-            Some(word) => page.number(word),
+            Some(word) => page.wide(word),
             None => page.put(b"null"),
         }
         page.put(b"}");

@@ -427,7 +427,7 @@ impl Teller {
     /// Reports why the last step was skipped.
     fn tell_away(&mut self, alloc: Global) {
         self.put_step();
-        self.page.put(b"turned away: ");
+        self.page.put(b"skipped: ");
         let (_, step) = self.judge.step();
         if let (Some(kernel), Some((core, thread))) = (self.judge.kernel(), entrant_of(step)) {
             put_reason(alloc, &mut self.page, &self.names, kernel, core, thread);

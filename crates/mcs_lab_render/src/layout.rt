@@ -120,10 +120,10 @@ fn has_arrow(fact: &Rec) -> bool {
 /// Why a step was skipped.
 fn why_away(why: EnterFault) -> &'static str {
     match why {
-        EnterFault::NotRunning => "turned away: it does not run",
-        EnterFault::NoContext => "turned away: it holds no context",
-        EnterFault::WrongCore => "turned away: its context is of another core",
-        _ => "turned away",
+        EnterFault::NotRunning => "skipped: it does not run",
+        EnterFault::NoContext => "skipped: it holds no context",
+        EnterFault::WrongCore => "skipped: its context is of another core",
+        _ => "skipped",
     }
 }
 

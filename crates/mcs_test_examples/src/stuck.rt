@@ -1,7 +1,7 @@
 //! Scripts at whose end threads are stuck, each beside one like it at whose end none is, one whose
 //! messages are dropped, and of two the whole state at their ends: what is reported of each.
 use mcs_lab_check::LabFault;
-use mcs_lab_inspect::{Wanted, explain, show_state};
+use mcs_lab_inspect::{Numbers, Wanted, explain, show_state};
 use mcs_sim::Source;
 use std::fs;
 use std::io::Write;
@@ -43,6 +43,7 @@ fn tell_script<W: Write + Drop>(
         at: None,
         stuck,
         json: false,
+        numbers: Numbers::Integers,
     };
     let seems_free = show_state(rt.alloc(), &mut Source::new(again), &mut *to, wanted)?;
     let told = word_of(is_free, seems_free);

@@ -9,11 +9,14 @@ use crate::walking::{self, Chance};
 use crate::{manual, renaming};
 use clap::builder::ValueParser;
 use clap::{Arg, ArgAction, ArgMatches, Command as Words, Error};
-use mcs_lab_inspect::Wanted;
+use mcs_lab_inspect::{Numbers, Wanted};
 use std::alloc::Global;
 
 /// The version of the program (own).
 const VERSION: &str = "0.1.0";
+
+/// The option for numbers as texts.
+const STRINGS: &str = "json-strings";
 
 /// What the program does with a script.
 #[derive(Clone, Copy)]
@@ -24,8 +27,8 @@ pub enum Command<'a> {
     Why,
     /// Shows the state of each thread.
     State(Wanted),
-    /// Writes the lines of the book as JSON.
-    Json,
+    /// Writes the lines of the book as JSON, with such numbers.
+    Json(Numbers),
     /// Draws the run.
     Draw(Drawn<'a>),
     /// Goes through all orders of the users.
@@ -174,11 +177,39 @@ fn json<'a>(alloc: Global) -> Arg<'a> {
         .action(ArgAction::SetTrue)
 }
 
+/// The option for numbers as texts.
+pub fn strings<'a>(alloc: Global) -> Arg<'a> {
+    Arg::new(alloc, STRINGS)
+        .long(STRINGS)
+        .help(
+            "Writes addresses, indexes, badges and words as texts, which JavaScript does not round",
+        )
+        .action(ArgAction::SetTrue)
+}
+
+/// Returns how the command line asks for numbers.
+fn numbers_of(found: &ArgMatches<'_>) -> Numbers {
+    if found.get_flag(STRINGS) {
+        Numbers::Texts
+    } else {
+        Numbers::Integers
+    }
+}
+
 /// A command with one argument more. What is made before a step that can fail is dropped where it
 /// fails, so a chain of such steps in one function is long to prove, and a step in a function of
 /// its own is not.
 pub fn with<'a>(words: Result<Words<'a>, Error>, arg: Arg<'a>) -> Result<Words<'a>, Error> {
     Ok(words?.arg(arg)?)
+}
+
+/// A command with one argument more, which is wanted only with another.
+pub fn with_other<'a>(
+    words: Result<Words<'a>, Error>,
+    arg: Arg<'a>,
+    other: &'a str,
+) -> Result<Words<'a>, Error> {
+    with(words, arg.requires_arg(other)?)
 }
 
 /// A command with one more below it.
@@ -220,6 +251,7 @@ fn state<'a>(alloc: Global) -> Result<Words<'a>, Error> {
     let words = with(Ok(words), at(alloc));
     let words = with(words, stuck(alloc));
     let words = with(words, json(alloc));
+    let words = with_other(words, strings(alloc), "json");
     with(words, file(alloc))
 }
 
@@ -230,7 +262,8 @@ fn book<'a>(alloc: Global) -> Result<Words<'a>, Error> {
             "Writes the lines of the book as JSON, an object for each, by the words of the forms",
         )
         .after_help("`mcslab forms script` shows the forms.");
-    with(Ok(words), file(alloc))
+    let words = with(Ok(words), strings(alloc));
+    with(words, file(alloc))
 }
 
 /// The program, with no command.
@@ -324,7 +357,7 @@ fn requested_of_steps<'a>(matches: &ArgMatches<'a>) -> Option<Request<'a>> {
         return Some(Request::of_either(Command::Why, found));
     }
     if let Some(found) = matches.subcommand_matches("json") {
-        return Some(Request::of_either(Command::Json, found));
+        return Some(Request::of_either(Command::Json(numbers_of(found)), found));
     }
     if let Some(found) = matches.subcommand_matches("draw") {
         let drawn = drawing::asked(found)?;
@@ -335,6 +368,7 @@ fn requested_of_steps<'a>(matches: &ArgMatches<'a>) -> Option<Request<'a>> {
             at: found.get_one("at"),
             stuck: found.get_flag("stuck"),
             json: found.get_flag("json"),
+            numbers: numbers_of(found),
         };
         return Some(Request::of_either(Command::State(wanted), found));
     }

@@ -4,7 +4,7 @@ ghost use Rattle.mcs_explore_report.specs.declared.report.Explored.TheVariants a
 ghost use Rattle.mcs_explore_report.specs.Failing.{HasReadFailing};
 ghost use Rattle.mcs_explore_report.specs.Holding.{HasReadHolding};
 
-use crate::command_line::with;
+use crate::command_line::{strings, with, with_other};
 use crate::folder::Folder;
 use clap::{Arg, ArgAction, ArgMatches, Command as Words, Error, value_parser};
 use mcs_explore_questions::ExploreFault;
@@ -148,6 +148,7 @@ pub fn command<'a>(alloc: Global, file: Arg<'a>) -> Result<Words<'a>, Error> {
     let words = with(words, force(alloc));
     let words = with(words, answers(alloc));
     let words = with(words, json(alloc));
+    let words = with_other(words, strings(alloc), "json");
     let words = with(words, exact(alloc));
     with(words, file)
 }

@@ -105,7 +105,7 @@ fn do_request<R: Read + Drop, W: Write + Drop>(
         Command::Check => check(alloc, source, to)?,
         Command::Why => explain(alloc, source, to)?,
         Command::State(wanted) => show_state(alloc, source, to, wanted)?,
-        Command::Json => write_json(alloc, source, to)?,
+        Command::Json(numbers) => write_json(alloc, source, to, numbers)?,
         Command::Draw(drawn) => return Ok(draw(rt, source, to, drawn, Said::nothing())?),
         Command::Explore(sought) => return explore(rt, source, to, sought),
         Command::Walk(chance) => return walk(alloc, source, to, chance),
@@ -206,7 +206,7 @@ fn carry_out(rt: &HostRuntime, request: &Request<'_>) -> ExitCode {
         | Command::Check
         | Command::Why
         | Command::State(_)
-        | Command::Json => {}
+        | Command::Json(_) => {}
     }
     if request.is_plan {
         return do_plan(rt, request);

@@ -15,7 +15,7 @@ use crate::telling::{
 use crate::walking::walk;
 use mcs_explore_questions::ExploreFault;
 use mcs_lab_check::{LabFault, Outcome, check};
-use mcs_lab_inspect::{Wanted, explain, show_state, write_json};
+use mcs_lab_inspect::{Numbers, Wanted, explain, show_state, write_json};
 use mcs_plan_compile::Script;
 use mcs_plan_validate::{CompileFault, Compiled, Loaded, Numbered, align_questions, load};
 use mcs_sim::Source;
@@ -133,7 +133,7 @@ impl Planned<'_> {
             Command::Draw(drawn) => (drawn.from, drawn.to),
             Command::Check
             | Command::Why
-            | Command::Json
+            | Command::Json(_)
             | Command::Explore(_)
             | Command::Walk(_)
             | Command::Compile(_)
@@ -189,9 +189,14 @@ impl Planned<'_> {
     }
 
     /// Writes the book as JSON.
-    fn write_json<W: Write>(&self, alloc: Global, to: &mut W) -> Result<bool, LabFault> {
+    fn write_json<W: Write>(
+        &self,
+        alloc: Global,
+        to: &mut W,
+        numbers: Numbers,
+    ) -> Result<bool, LabFault> {
         let mut report = Vec::new(alloc);
-        let done = write_json(alloc, &mut self.source(), &mut report);
+        let done = write_json(alloc, &mut self.source(), &mut report, numbers);
         self.put(alloc, &report, Form::Json, to)?;
         done
     }
@@ -206,8 +211,18 @@ impl Planned<'_> {
         let at = wanted
             .at
             .map(|line| last_line(&self.script.numbers, self.boot, line));
-        let Wanted { stuck, json, .. } = wanted;
-        let wanted = Wanted { at, stuck, json };
+        let Wanted {
+            stuck,
+            json,
+            numbers,
+            ..
+        } = wanted;
+        let wanted = Wanted {
+            at,
+            stuck,
+            json,
+            numbers,
+        };
         if json {
             return show_state(alloc, &mut self.source(), to, wanted);
         }
@@ -263,7 +278,7 @@ impl Planned<'_> {
         let holds = match command {
             Command::Check => self.check(alloc, to)?,
             Command::Why => self.explain(alloc, to)?,
-            Command::Json => self.write_json(alloc, to)?,
+            Command::Json(numbers) => self.write_json(alloc, to, numbers)?,
             Command::State(wanted) => self.show_state(alloc, to, wanted)?,
             Command::Draw(drawn) => return Ok(self.draw(rt, to, drawn)?),
             Command::Explore(sought) => return self.explore(rt, to, sought),

@@ -324,7 +324,7 @@ pub fn reads_users(command: Command<'_>) -> bool {
         Command::Check
         | Command::Why
         | Command::State(_)
-        | Command::Json
+        | Command::Json(_)
         | Command::Draw(_)
         | Command::Compile(_)
         | Command::Names
