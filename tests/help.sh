@@ -47,7 +47,8 @@ for command in $commands; do
         grep -q "\b$command\b" $shell || fails "no $command in the completions for $shell"
     done
     for option in $("$program" "$command" --help | sed -n 's/^ *\(-h, \)\{0,1\}--\([a-z-]*\).*/\2/p' | grep -v '^help$'); do
-        sed -n "/^\.SS $command\$/,/^\.SS/p" mcslab.1 | grep -q -F "\\-\\-$option" || fails "no --$option of $command in the manual page"
+        escaped=$(echo "--$option" | sed 's/-/\\-/g')
+        sed -n "/^\.SS $command\$/,/^\.SS/p" mcslab.1 | grep -q -F -e "$escaped" || fails "no --$option of $command in the manual page"
         grep "^ *$command) words=" bash | grep -q -e "--$option\b" || fails "no --$option of $command for bash"
         grep "^ *$command) _arguments" zsh | grep -q -e "--$option\[" || fails "no --$option of $command for zsh"
         grep "seen_subcommand_from $command'" fish | grep -q -e "-l $option\b" || fails "no --$option of $command for fish"

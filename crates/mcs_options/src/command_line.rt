@@ -15,6 +15,18 @@ use std::alloc::Global;
 /// The version of the program (own).
 const VERSION: &str = "0.1.0";
 
+/// The exit statuses of `SimFault`.
+const STATUSES: &str = "\
+Exit status:
+   0  the whole trace was written
+   1  the command line
+   2  a line of the script is refused
+   3  a read failed, or a file cannot be opened
+   4  a write failed
+   5  the book is full
+   6  memory was refused
+   7  a host thread did not start, or the book did not agree with what the cores got";
+
 /// The option that says how many cores the machine has.
 fn cores<'a>(alloc: Global) -> Arg<'a>
     ensures rule { rule_of result ≡ cores_option }
@@ -86,6 +98,7 @@ fn commands<'a>(alloc: Global) -> Result<Command<'a>, Error>
         Command::new(alloc, "mcssim")
             .version(VERSION)
             .about("Simulates the message passing of seL4 MCS")
+            .after_help(STATUSES)
             .subcommand_required(true)
             .subcommand(replay(alloc)?)?
             .subcommand(run(alloc)?)?,

@@ -124,6 +124,11 @@ fn json<'a>(alloc: Global) -> Arg<'a> {
         .action(ArgAction::SetTrue)
 }
 
+/// Returns the option for numbers as texts: no number of a report has more than 53 bits.
+fn texts<'a>(alloc: Global) -> Arg<'a> {
+    strings(alloc).help("Writes numbers of 64 bits as texts; this report has none")
+}
+
 /// Returns the option for exact keys.
 fn exact<'a>(alloc: Global) -> Arg<'a> {
     Arg::new(alloc, "exact")
@@ -148,7 +153,7 @@ pub fn command<'a>(alloc: Global, file: Arg<'a>) -> Result<Words<'a>, Error> {
     let words = with(words, force(alloc));
     let words = with(words, answers(alloc));
     let words = with(words, json(alloc));
-    let words = with_other(words, strings(alloc), "json");
+    let words = with_other(words, texts(alloc), "json");
     let words = with(words, exact(alloc));
     with(words, file)
 }
