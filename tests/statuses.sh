@@ -68,6 +68,12 @@ if [ "$(id -u)" -ne 0 ]; then
     done
 fi
 ends 64 '--wrong' check --wrong
+ends 64 'were not provided' state --json-strings $script
+ends 64 'were not provided' explore --json-strings examples/explore/mutex.mcs
+ends 64 "'--json-strings'" why --json-strings $script
+ends 0 '' json --json-strings $script
+ends 0 '' state --json --json-strings $script
+ends 0 '' explore --json-strings --json examples/explore/mutex.mcs
 ends 64 '0' state --at 0 $script
 ends 64 'there is no line 35 in the script, which has 34' state --at 35 $script
 ends 0 '' state --at 34 $script
