@@ -219,7 +219,7 @@ impl<'a, W: Watch> Explorer<'a, W> {
         };
         self.turns = self.turns.saturating_add(1);
         self.watch
-            .see_turn(self.users, place, turn, &answer, &from, &walk)?;
+            .see_turn(self.users, place, turn, &answer, from.as_slice(), &walk)?;
         let picks = walk.picks(alloc, self.users)?;
         let key = self.keys.key(self.users, &walk, &picks)?;
         self.trail.let_go(walk);

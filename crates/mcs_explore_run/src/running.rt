@@ -66,7 +66,7 @@ fn make_turn<W: Watch>(
 {
     let from = Vec::from_slice(alloc, walk.places())?;
     match walk.turn(alloc, users, picks, turn)? {
-        Some(answer) => watch.see_turn(users, number, turn, &answer, &from, walk),
+        Some(answer) => watch.see_turn(users, number, turn, &answer, from.as_slice(), walk),
         None => unreachable!(),
     }
 }

@@ -1,4 +1,4 @@
-use Rattle.std.proofs.Common.{Option, IfNone, IfSome, Some, ◌≡◌, subst}
+use Rattle.std.proofs.Common.{Option, IfNone, IfSome, Some, ◌≡◌, ◌∙◌, subst}
 use Rattle.mcs_types.specs.declared.entry.Answer.{Answer}
 use Rattle.mcs_explore_walk.specs.Walks.{HasNoTurn, last_answer}
 use Rattle.std.specs.Result.{OnOk}
@@ -26,5 +26,5 @@ pub returns-clause-sees : goal.returns-clause-sees
 returns-clause-sees g c =
     let leads = subst (λ (o : Option Answer). IfSome o (λ a. Leads c.args.users.now c.args.turn c.args.walk.now c.turn.new.self)) c.in-Some.is c.in_ok-answer.ensures.turn in
     let answer = subst (λ (o : Option Answer). IfSome o (λ a. last_answer c.turn.new.self.book ≡ Some a)) c.in-Some.is c.in_ok-answer.ensures.answer in
-    let sees = subst (λ ps. OnOk c.see_turn.result (SeesTurn g.W.Watch.HasSeen c.args.watch.now c.see_turn.new.self c.args.users.now c.args.number c.args.turn c.in-Some.answer ps c.turn.new.self)) c.in_ok-from.ensures c.see_turn.ensures.sees in
+    let sees = subst (λ ps. OnOk c.see_turn.result (SeesTurn g.W.Watch.HasSeen c.args.watch.now c.see_turn.new.self c.args.users.now c.args.number c.args.turn c.in-Some.answer ps c.turn.new.self)) (c.as_slice.ensures.value ∙ c.in_ok-from.ensures.items ∙ c.places.ensures) c.see_turn.ensures.sees in
     sees-turn c.see_turn.result g.W.Watch.HasSeen _ _ _ _ c.args.turn c.in-Some.answer c.args.walk.now c.turn.new.self leads answer sees

@@ -1,6 +1,7 @@
 use Rattle.std.specs.Prelude.{◌≡◌, Option, Some, IfNone, IfSome}
-use Rattle.std.proofs.Common.{refl, sym, subst}
+use Rattle.std.proofs.Common.{refl, ap, sym, subst, ◌∙◌}
 use Rattle.mcs_types.specs.declared.entry.Answer.{Answer}
+use Rattle.mcs_turns.specs.Turns.{Going}
 use Rattle.mcs_explore_walk.specs.Walks.{HasNoTurn, last_answer}
 use Rattle.mcs_explore_orders.specs.Trails.{Leads}
 use Rattle.mcs_explore_orders.specs.Shown.{HasCounted, SeesTurn}
@@ -21,9 +22,9 @@ returns-clause-told g c =
     let there = c.deref_mut.ensures.value in
     let leads = subst (λ w. Leads users c.args.turn w behind) there (subst (λ (o : Option Answer). IfSome o (λ a. Leads users c.args.turn c.deref_mut.result.now behind)) c.in-Some.is c.in_ok-answer.ensures.turn) in
     let told = subst (λ (o : Option Answer). IfSome o (λ a. last_answer behind.book ≡ Some a)) c.in-Some.is c.in_ok-answer.ensures.answer in
-    let from = c.in_ok-from.from.items in
-    let sees = subst (λ h. SeesTurn g.W.Watch.HasSeen c.self.inside.watch c.see_turn.new.self users c.args.place c.args.turn c.in-Some.answer from h) c.deref.ensures c.in_ok-see_turn.ensures.sees in
-    let there_sees = subst (λ ps. SeesTurn g.W.Watch.HasSeen c.self.inside.watch c.see_turn.new.self users c.args.place c.args.turn c.in-Some.answer ps behind) c.in_ok-from.ensures sees in
+    let from = c.as_slice.result.now in
+    let sees = subst (λ h. SeesTurn g.W.Watch.HasSeen c.self.inside.watch c.see_turn.new.self users c.args.place c.args.turn c.in-Some.answer from h) c.deref-2.ensures c.in_ok-see_turn.ensures.sees in
+    let there_sees = subst (λ ps. SeesTurn g.W.Watch.HasSeen c.self.inside.watch c.see_turn.new.self users c.args.place c.args.turn c.in-Some.answer ps behind) (c.as_slice.ensures.value ∙ c.in_ok-from.ensures.items ∙ c.places.ensures ∙ ap (λ (x : Going). x.places) c.deref.ensures) sees in
     rw (← c.self.view_is) (turn-told (HasCounted g.W.Watch.HasSeen) _ _ users c.args.place c.args.turn walk behind c.in-Some.answer leads told
     (turn-counted g.W.Watch.HasSeen _ _ users c.args.place c.args.turn c.in-Some.answer walk.places behind c.saturating_add-self-inside.ensures refl there_sees))
 
