@@ -7,9 +7,11 @@ cd "$(dirname "$0")/.."
 program=${1:-crates/mcslab/out/mcslab}
 [ -x "$program" ] || { echo "lab.sh: run rt ci first, which leaves $program"; exit 1; }
 tried=0
-for wanted in tests/lab/*.check tests/lab/*.why tests/lab/*.json tests/lab/*.state tests/lab/*.state-*; do
-    # .state-json is what `state --json` tells
-    command=$(echo "${wanted##*.}" | sed 's/-/ --/')
+for wanted in tests/lab/*.check tests/lab/*.why tests/lab/*.json tests/lab/*.json-* tests/lab/*.state tests/lab/*.state-*; do
+    # .state-json is what `state --json` tells, and with -strings behind it with --json-strings, too
+    kind=${wanted##*.}
+    command=$(echo "${kind%-strings}" | sed 's/-/ --/')
+    [ "$kind" = "${kind%-strings}" ] || command="$command --json-strings"
     # shellcheck disable=SC2086
     "$program" $command "${wanted%.*}.mcs" 2>&1 | cmp - "$wanted" || { echo "lab.sh: $wanted"; exit 1; }
     tried=$((tried + 1))
