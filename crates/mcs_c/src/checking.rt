@@ -53,8 +53,8 @@ fn met_ending(met: bool) -> Ending
     }
 }
 
-/// Returns whether the lines of a script hold, or do not, as was answered. No clause of `check` says
-/// that its answer is that of the definition.
+/// Returns whether the lines of a script hold, or do not, as was answered. No clause of `check`
+/// says that its answer is that of the definition.
 fn is_borne_out(alloc: Global, script: &[u8], met: bool) -> Result<bool, OutOfMemory>
     ensures { IfOk result (λ is. is ≡ true → met ≡ holds_throughout script.now) }
 {
