@@ -8,7 +8,7 @@
 #   MCSLAB  the checker, else crates/mcslab/out/mcslab; without it scripts of plans alone are
 #           compared
 #   KIT     the kit's folder, else the one that `rt` is in
-#   STEPS   how many steps the script has by which the speed is measured (200000)
+#   STEPS   how many steps the script has by which the speed is measured (900000)
 set -u
 cd "$(dirname "$0")/.." || exit 1
 top=$PWD
@@ -208,7 +208,7 @@ else
 fi
 
 # Speed: the same script by both, in one run.
-steps=${STEPS:-200000}
+steps=${STEPS:-900000}
 {
     printf 'cores 1\ncnode 1\ncnode 2\nendpoint\nreply\ncontext 0\ncontext 0\n'
     printf 'thread 10 255 c1 63 0 run s1\nthread 20 255 c2 62 0 run s2\nslot c1 1 e1 wp 42\nslot c2 1 e1 r 0\nslot c2 2 r1\n0 t2 recv 1 2\n'

@@ -53,10 +53,11 @@ static int is_reason(const struct command *command, uint32_t status) {
     return (is(command, "compile") || is(command, "explore")) && (status == MCS_REFUSED || status == MCS_BOOK_FULL);
 }
 
-/* Writes the text of one call: once more where the first room did not do. */
+/* Writes the text of one call: once more where the first room did not do. Traces of short steps
+ * are five to six times as long as their scripts, and memory that no call writes costs nothing. */
 static uint32_t call(const struct command *command, const uint8_t *text, size_t n, const uint8_t *line, size_t m,
                      mcs_end *end) {
-    size_t room = is(command, "steps") ? 1 << 12 : 4 * n + (1 << 12);
+    size_t room = is(command, "steps") ? 1 << 12 : 16 * n + (1 << 16);
     for (;;) {
         uint8_t *out = malloc(room);
         if (!out)

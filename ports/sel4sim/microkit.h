@@ -2,8 +2,9 @@
  * linked into a test as it is.
  *
  * Each protection domain is compiled with -DMICROKIT_PD=NAME: its `init`, `notified` and
- * `protected` become NAME_init, NAME_notified and NAME_protected (microkit_sim.h). What is declared
- * here and not simulated (interrupts, faults, x86 ports) does not link. */
+ * `protected` become NAME_init, NAME_notified and NAME_protected (microkit_sim.h); NAME is its
+ * microkit_name. What is declared here and not simulated (interrupts, faults, x86 ports) does not
+ * link. */
 #ifndef SEL4SIM_MICROKIT_H
 #define SEL4SIM_MICROKIT_H
 
@@ -31,9 +32,15 @@ enum {
 #define init MICROKIT_JOIN(MICROKIT_PD, init)
 #define notified MICROKIT_JOIN(MICROKIT_PD, notified)
 #define protected MICROKIT_JOIN(MICROKIT_PD, protected)
+#define fault MICROKIT_JOIN(MICROKIT_PD, fault)
+#define MICROKIT_TEXT_(pd) #pd
+#define MICROKIT_TEXT(pd) MICROKIT_TEXT_(pd)
+#define microkit_name MICROKIT_TEXT(MICROKIT_PD)
 void init(void);
 void notified(microkit_channel ch);
 microkit_msginfo protected(microkit_channel ch, microkit_msginfo msginfo);
+/* Nothing calls it, as no fault is simulated. */
+seL4_Bool fault(microkit_child child, microkit_msginfo msginfo, microkit_msginfo *reply);
 #endif
 
 static inline microkit_msginfo microkit_msginfo_new(seL4_Word label, seL4_Uint16 count) {
@@ -63,6 +70,15 @@ static inline void microkit_dbg_putc(int c) {
 static inline void microkit_dbg_puts(const char *text) {
     while (*text)
         seL4_DebugPutChar(*text++);
+}
+static inline void microkit_dbg_put32(seL4_Uint32 number) {
+    char digits[11], *at = digits + sizeof digits - 1;
+    for (*at = 0; number || !*at; number /= 10)
+        *--at = (char)('0' + number % 10);
+    microkit_dbg_puts(at);
+}
+static inline void microkit_dbg_put8(seL4_Uint8 number) {
+    microkit_dbg_put32(number);
 }
 
 /* The signal goes out with the receive that follows, in one call of the kernel. */

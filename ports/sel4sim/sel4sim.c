@@ -5,6 +5,7 @@
 #include "sel4sim.h"
 #include "mcs.h"
 
+#include <malloc.h>
 #include <stdarg.h>
 #include <stdlib.h>
 #include <string.h>
@@ -27,7 +28,7 @@
 #include <valgrind/valgrind.h>
 #endif
 
-enum { THREADS = 257, STACK = 256 * 1024, LINE = 4200, CHOICES = 4096, KEPT = 1 << 20 };
+enum { THREADS = 257, STACK = 256 * 1024, LINE = 4200, CHOICES = 4096, KEPT = 1 << 20, KEPT_MEMORY = 1 << 25 };
 
 /* ---- the world */
 
@@ -381,6 +382,16 @@ static void arrive(void *shadow, const void **stack, size_t *size) {
 
 /* ---- boot */
 
+/* Lets malloc keep what one step gives back for the next, which builds the same state again: without
+ * that most of a run's time is the system's. */
+static void keep_memory(void) {
+#ifdef __GLIBC__
+    static bool is_kept;
+    if (!is_kept)
+        is_kept = mallopt(M_TRIM_THRESHOLD, KEPT_MEMORY) && mallopt(M_MMAP_THRESHOLD, KEPT_MEMORY);
+#endif
+}
+
 static void hear_boot(const char *line) {
     const char *at = line;
     if (word_is(&at, "context")) {
@@ -402,6 +413,7 @@ static void hear_boot(const char *line) {
 }
 
 void sel4sim_boot(const char *boot) {
+    keep_memory();
     for (struct thread *t = threads; t < threads + THREADS; t++)
         drop_stack(t);
     memset(threads, 0, sizeof threads);
@@ -605,6 +617,20 @@ bool sel4sim_ended(int serial) {
 
 int sel4sim_fault(int serial) {
     return thread_at(serial)->fault;
+}
+
+bool sel4sim_says(const char *question) {
+    struct text text = {0};
+    mcs_end end = {0, 0, 0};
+    append(&text, script.bytes, script.length);
+    append(&text, "#? ", 3);
+    append(&text, question, strlen(question));
+    append(&text, "\n", 1);
+    uint32_t status = mcs_check((const uint8_t *)text.bytes, text.length, NULL, 0, &end);
+    free(text.bytes);
+    if (status != MCS_OK && status != MCS_UNMET)
+        fail("a question is refused, or memory, or a line of the boot");
+    return status == MCS_OK;
 }
 
 int sel4sim_current(void) {

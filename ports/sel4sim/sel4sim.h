@@ -51,6 +51,11 @@ bool sel4sim_is_stuck(int serial);
 bool sel4sim_ended(int serial);
 int sel4sim_fault(int serial);
 
+/* Whether the records of the kernel say so, now: a question of a script without its `#? `, as
+ * "t2 waits e1.recv" or "s1 chain r1" (`mcslab forms questions` lists all). mcs_check answers, which
+ * is proved. A text that asks nothing ends the test. */
+bool sel4sim_says(const char *question);
+
 /* In a thread's code: its serial, and a place where another may go on without a call. */
 int sel4sim_current(void);
 void sel4sim_point(void);

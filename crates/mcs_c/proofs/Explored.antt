@@ -2,24 +2,11 @@
 use Rattle.std.specs.Prelude.{◌≡◌, ◌≤◌, ℕ, List, Result, Ok, Err}
 use Rattle.std.specs.Result.{IfOk}
 use Rattle.std.proofs.Common.{ap, arith}
-use Rattle.mcs_lab_check.specs.declared.fault.LabFault.{LabFault}
-use Rattle.mcs_lab_check.specs.declared.fault.LabFault.TheVariants as fault
 use Rattle.mcs_explore_questions.specs.declared.fault.ExploreFault.{ExploreFault}
 use Rattle.mcs_explore_questions.specs.declared.fault.ExploreFault.TheVariants as explore
 use Rattle.mcs_c.specs.declared.handing.Ending.{Ending}
-use Rattle.mcs_c.specs.Checks.{lab_ending}
 use Rattle.mcs_c.specs.Explores.{IsExplored, explore_fault_ending}
-
-lab-above : (f : LabFault) → 2 ≤ (lab_ending f).status
-lab-above (fault.Script line why) = omega arith
-lab-above (fault.Form line) = omega arith
-lab-above (fault.Flawed line why flaw) = omega arith
-lab-above (fault.NoLine line count) = omega arith
-lab-above (fault.NoBookLine line count) = omega arith
-lab-above fault.Read = omega arith
-lab-above fault.Write = omega arith
-lab-above fault.BookFull = omega arith
-lab-above fault.OutOfMemory = omega arith
+use Rattle.mcs_c.proofs.Checked.{lab-above}
 
 above : (f : ExploreFault) → 2 ≤ (explore_fault_ending f).status
 above (explore.Lab f) = lab-above f

@@ -1,2 +1,3 @@
 mod Replayed
+mod Checked
 mod Explored

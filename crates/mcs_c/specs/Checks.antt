@@ -1,5 +1,5 @@
 -- What comes of a script that is checked.
-use Rattle.std.specs.Prelude.{◌≡◌, ℕ, Bool, true, false, List, Option, Some, None, Result, Ok, Err}
+use Rattle.std.specs.Prelude.{◌≡◌, ◌⊎◌, ℕ, Bool, true, false, List, Option, Some, None, Result, Ok, Err}
 use Rattle.mcs_text.specs.Faults.{fault_number}
 use Rattle.mcs_text.specs.declared.fault.LineFault.{LineFault}
 use Rattle.mcs_lab_check.specs.declared.fault.LabFault.{LabFault}
@@ -7,6 +7,7 @@ use Rattle.mcs_lab_check.specs.declared.fault.LabFault.TheVariants as fault
 use Rattle.mcs_c.specs.declared.handing.Ending.{Ending}
 use Rattle.mcs_c.specs.declared.handing.McsEnd.{McsEnd}
 use Rattle.mcs_c.specs.Handing.{Ends, HandsOut, at_line, with_status}
+use Rattle.mcs_c.specs.Verdicts.{holds_throughout}
 
 -- the number of a fault of a line; 10 where it has the form of no question and of no name
 abbrev pub why_number : Option LineFault → ℕ
@@ -31,16 +32,19 @@ check_ending (Ok true) = with_status 0
 check_ending (Ok false) = with_status 1
 check_ending (Err f) = lab_ending f
 
--- a call ends so by some answer of a check, and memory was not refused
-pub record IsChecked (e : Ending) : Type 0 where
+-- a call ends so by some answer of a check, or with status 7, and memory was not refused. Status 0
+-- says that all lines of the script hold, by the definition of verdicts, and 1 that some does not
+pub record IsChecked (script : List ℕ) (e : Ending) : Type 0 where
   pub answer : Result Bool LabFault
-  pub is : e ≡ check_ending answer
+  pub is : (e ≡ check_ending answer) ⊎ (e ≡ with_status 7)
   pub granted : e.status ≡ 6 → ⊥
+  pub holds : e.status ≡ 0 → holds_throughout script ≡ true
+  pub fails : e.status ≡ 1 → holds_throughout script ≡ false
 
 -- what `mcs_check` leaves: of a text as much as there is room for, with how a check was answered
-pub record Checks (status : ℕ) (old new : List ℕ) (end : McsEnd) : Type 0 where
+pub record Checks (script : List ℕ) (status : ℕ) (old new : List ℕ) (end : McsEnd) : Type 0 where
   pub text : List ℕ
   pub ending : Ending
   pub wrote : HandsOut text old new end.length
   pub ends : Ends ending status end
-  pub is : IsChecked ending
+  pub is : IsChecked script ending

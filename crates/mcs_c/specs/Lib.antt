@@ -3,3 +3,4 @@ pub mod Compiles
 pub mod Explores
 pub mod Handing
 pub mod Replays
+pub mod Verdicts

@@ -1,9 +1,11 @@
 //! Scripts that test themselves.
-ghost use Rattle.std.specs.Prelude.{◌≡◌, ◌⊎◌, IfOk};
+ghost use Rattle.std.specs.Prelude.{◌≡◌, ◌⊎◌, true, IfOk, Ok};
 ghost use Rattle.mcs_c.specs.Handing.{IsRefused};
 ghost use Rattle.mcs_c.specs.Checks.{Checks, IsChecked, check_ending, lab_ending, why_number};
+ghost use Rattle.mcs_c.specs.Verdicts.{holds_throughout};
 
-use crate::handing::{Ending, Handed, McsEnd, NO_MEMORY};
+use crate::handing::{Ending, Handed, McsEnd, NO_MEMORY, WRONG};
+use crate::judging::holds_throughout;
 use mcs_lab_check::{LabFault, check};
 use mcs_sim::Source;
 use mcs_text::LineFault;
@@ -35,29 +37,69 @@ pub(crate) fn lab_ending(fault: LabFault) -> Ending
         LabFault::BookFull => Ending::of_status(5),
         LabFault::Write | LabFault::OutOfMemory => Ending::of_status(NO_MEMORY),
         LabFault::NoLine { .. } | LabFault::NoBookLine { .. } | LabFault::Read => {
-            Ending::of_status(7)
+            Ending::of_status(WRONG)
         }
     }
 }
 
-/// How a call ends where a check was answered so.
-fn check_ending(answer: Result<bool, LabFault>) -> Ending
-    ensures { result ≡ check_ending answer }
+/// How a call ends where all lines hold, or some do not.
+fn met_ending(met: bool) -> Ending
+    ensures { result ≡ check_ending (Ok met) }
 {
-    match answer {
-        Ok(true) => Ending::of_status(0),
-        Ok(false) => Ending::of_status(1),
-        Err(fault) => lab_ending(fault),
+    if met {
+        Ending::of_status(0)
+    } else {
+        Ending::of_status(1)
     }
+}
+
+/// Returns whether the lines of a script hold, or do not, as was answered. No clause of `check`
+/// says that its answer is that of the definition.
+fn is_borne_out(alloc: Global, script: &[u8], met: bool) -> Result<bool, OutOfMemory>
+    ensures { IfOk result (λ is. is ≡ true → met ≡ holds_throughout script.now) }
+{
+    match holds_throughout(alloc, script) {
+        Ok(holds) => Ok(holds == met),
+        Err(LabFault::OutOfMemory) => Err(OutOfMemory),
+        Err(
+            LabFault::Script { .. }
+            | LabFault::Form { .. }
+            | LabFault::Flawed { .. }
+            | LabFault::NoLine { .. }
+            | LabFault::NoBookLine { .. }
+            | LabFault::Read
+            | LabFault::Write
+            | LabFault::BookFull,
+        ) => Ok(false),
+    }
+}
+
+/// How a call ends where a check was answered so. An answer that is not borne out is not given.
+#[tactic(auto, using(crate::proofs::Checked::checked_met, crate::proofs::Checked::checked_wrong))]
+fn ending_of(
+    alloc: Global,
+    script: &[u8],
+    answer: Result<bool, LabFault>,
+) -> Result<Ending, OutOfMemory>
+    ensures { IfOk result (λ e. IsChecked script.now e) }
+{
+    let met = match answer {
+        Ok(met) => met,
+        Err(fault) => return lab_ending(fault).granted(),
+    };
+    if !is_borne_out(alloc, script, met)? {
+        return Ok(Ending::of_status(WRONG));
+    }
+    Ok(met_ending(met))
 }
 
 /// Checks a script, and returns the verdicts, with how the call ends.
 fn check_text(alloc: Global, script: &[u8]) -> Result<Handed, OutOfMemory>
-    ensures { IfOk result (λ h. IsChecked h.ending) }
+    ensures { IfOk result (λ h. IsChecked script.now h.ending) }
 {
     let mut text = Vec::new(alloc);
     let answer = check(alloc, &mut Source::new(script), &mut text);
-    let ending = check_ending(answer).granted()?;
+    let ending = ending_of(alloc, script, answer)?;
     Ok(Handed { text, ending })
 }
 
@@ -67,7 +109,7 @@ fn check_text(alloc: Global, script: &[u8]) -> Result<Handed, OutOfMemory>
 #[unsafe(no_mangle)]
 pub extern "C" fn mcs_check(alloc: Global, script: &[u8], out: &mut [u8], end: &mut McsEnd) -> u32
     ensures { IsRefused result out.old out.new end.old end.new
-        ⊎ Checks result out.old out.new end.new }
+        ⊎ Checks script.now result out.old out.new end.new }
 {
     match check_text(alloc, script) {
         Ok(handed) => handed.hand_over(out, end),

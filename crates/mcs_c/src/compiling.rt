@@ -3,7 +3,7 @@ ghost use Rattle.std.specs.Prelude.{◌≡◌, ◌⊎◌, ◌++◌, IfOk};
 ghost use Rattle.mcs_c.specs.Handing.{IsRefused, with_status};
 ghost use Rattle.mcs_c.specs.Compiles.{Compiles, IsCompiled, IsPlanRefused, IsScriptOfPlan, compile_ending, plan_ending};
 
-use crate::handing::{Ending, Handed, McsEnd, NO_MEMORY};
+use crate::handing::{Ending, Handed, McsEnd, NO_MEMORY, WRONG};
 use mcs_plan_source::{PlanFault, Why};
 use mcs_plan_validate::{CompileFault, Compiled, Loaded, load};
 use mcs_sim::SimFault;
@@ -37,7 +37,7 @@ fn compile_ending(fault: &CompileFault) -> Ending
         | CompileFault::Boot(_)
         | CompileFault::OtherBoot
         | CompileFault::Astray(_)
-        | CompileFault::User(_) => Ending::of_status(7),
+        | CompileFault::User(_) => Ending::of_status(WRONG),
     }
 }
 

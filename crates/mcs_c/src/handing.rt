@@ -19,6 +19,9 @@ pub struct McsEnd {
 /// The status where memory is refused.
 pub(crate) const NO_MEMORY: u32 = 6;
 
+/// The status that no call returns; it would be a fault of the library.
+pub(crate) const WRONG: u32 = 7;
+
 /// Writes as much of a text as there is room for, and returns how many bytes all of it has.
 pub(crate) fn hand_out(text: &[u8], out: &mut [u8]) -> usize
     ensures { HandsOut text.now out.old out.new result }

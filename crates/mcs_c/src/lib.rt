@@ -17,6 +17,7 @@ mod checking;
 mod compiling;
 mod exploring;
 mod handing;
+mod judging;
 mod replaying;
 mod telling;
 

@@ -3,7 +3,7 @@ ghost use Rattle.std.specs.Prelude.{◌≡◌, ◌⊎◌, IfOk};
 ghost use Rattle.mcs_c.specs.Handing.{HandsOut, IsRefused};
 ghost use Rattle.mcs_c.specs.Replays.{going, IsEnd, IsReplay, IsStep, Replays, Steps};
 
-use crate::handing::{McsEnd, NO_MEMORY, hand_out};
+use crate::handing::{McsEnd, NO_MEMORY, WRONG, hand_out};
 use crate::telling::{Told, tell};
 use mcs_sim::{SimFault, TracedRun};
 use mcs_types::OutOfMemory;
@@ -54,7 +54,9 @@ fn ending(ended: Result<(), SimFault>, length: usize) -> (u32, McsEnd)
         Err(SimFault::Script { line, why }) => (2, line, u64::from(why.number())),
         Err(SimFault::BookFull) => (5, 0, 0),
         Err(SimFault::OutOfMemory) => (NO_MEMORY, 0, 0),
-        Err(SimFault::Argument | SimFault::Read | SimFault::Write | SimFault::Failed) => (7, 0, 0),
+        Err(SimFault::Argument | SimFault::Read | SimFault::Write | SimFault::Failed) => (
+            WRONG, 0, 0,
+        ),
     };
     (
         status,

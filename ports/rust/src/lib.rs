@@ -89,9 +89,10 @@ fn whole(room: usize, call: impl Fn(&mut [u8], &mut raw::mcs_end) -> u32) -> Res
     }
 }
 
-/// Returns how much room most texts need that come of a text of this length.
+/// Returns how much room most texts need that come of a text of this length: traces of short steps
+/// are five to six times as long as their scripts.
 fn room_for(length: usize) -> usize {
-    length.saturating_mul(4).saturating_add(1 << 12)
+    length.saturating_mul(8).saturating_add(1 << 12)
 }
 
 /// A call of `mcs.h` that reads one text.

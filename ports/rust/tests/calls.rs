@@ -127,6 +127,6 @@ fn all_orders_are_explored_within_a_budget() {
                  #! answer t1 1 heard 4\n";
     assert_eq!(explore(users.as_bytes(), 1000).unwrap().ended, Ended::Done);
     assert_eq!(explore(users.as_bytes(), 1).unwrap().ended, Ended::Stopped);
-    let fails = format!("{users}#! never = heard *\n");
+    let fails = format!("{users}#! never + heard t1 **\n");
     assert_eq!(explore(fails.as_bytes(), 1000).unwrap().ended, Ended::Unmet);
 }

@@ -216,6 +216,8 @@ int main(void) {
     assert(run(suspends, suspended, "1122") == SEL4SIM_DONE);
     assert(run(refused, nothing, "1") == SEL4SIM_FAULTED && sel4sim_fault(1) == 1);
     assert(run(calls_nobody, nothing, "1") == SEL4SIM_STUCK && sel4sim_is_stuck(1));
+    assert(sel4sim_says("t1 waits e1.send") && sel4sim_says("e1.send t1") && sel4sim_says("t2 running"));
+    assert(!sel4sim_says("t1 running") && !sel4sim_says("e1.recv t2") && sel4sim_says("s1 held t1"));
     assert(run(points, nothing, "12") == SEL4SIM_DONE);
     sel4sim_boot("cores 1\nbad\n");
     assert(sel4sim_run(0) == SEL4SIM_DONE && !sel4sim_stuck());

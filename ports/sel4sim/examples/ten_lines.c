@@ -24,7 +24,7 @@ static void test(uint64_t seed) {
     sel4sim_thread(2, server, NULL);
     sel4sim_serves(2);
     assert(sel4sim_run(seed) == SEL4SIM_DONE);
-    assert(answer == 58 && !sel4sim_stuck());
+    assert(answer == 58 && !sel4sim_stuck() && sel4sim_says("t2 waits e1.recv"));
 }
 
 int main(void) {

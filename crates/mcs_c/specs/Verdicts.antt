@@ -1,0 +1,24 @@
+-- Whether what a script says of its steps holds.
+use Rattle.std.specs.Prelude.{ℕ, Bool, true, false, List, [], ◌∷◌, ◌++◌, map}
+use Rattle.std.specs.List.{list_all}
+use Rattle.mcs_text.specs.Reading.{lines_of}
+use Rattle.mcs_lab_check.specs.Checked.{unread, verdicts}
+use Rattle.mcs_lab_check.specs.declared.last.Told.{Told}
+use Rattle.mcs_lab_check.specs.declared.last.Told.TheVariants as told
+
+-- a line holds; so it does where it wants nothing
+abbrev pub is_met : Told → Bool
+is_met told.Nothing = true
+is_met told.Step = true
+is_met (told.Answer holds) = holds
+is_met (told.Record holds) = holds
+is_met (told.Asked holds) = holds
+is_met told.NoQuestion = false
+
+-- a line with its newline, which the last of a text may lack
+abbrev pub whole_line : List ℕ → List ℕ
+whole_line line = line ++ 10 ∷ []
+
+-- all lines of a script hold, where each is judged after those before it
+abbrev pub holds_throughout : List ℕ → Bool
+holds_throughout script = list_all is_met (verdicts unread (map whole_line (lines_of script)))

@@ -1,0 +1,44 @@
+//! Whether what a script says of its steps holds, by the definition of its verdicts.
+ghost use Rattle.std.specs.Prelude.{◌≡◌, IfOk};
+ghost use Rattle.mcs_lab_check.specs.Checked.{judged};
+ghost use Rattle.mcs_c.specs.Verdicts.{holds_throughout, is_met, whole_line};
+
+use mcs_lab_check::{Judge, LabFault, Told};
+use mcs_text::Lines;
+use std::alloc::Global;
+
+/// Returns whether a line holds; so it does where it wants nothing.
+fn is_met(told: Told) -> bool
+    ensures { result ≡ is_met told }
+{
+    match told {
+        Told::Nothing | Told::Step => true,
+        Told::Answer { holds } | Told::Record { holds } | Told::Asked { holds } => holds,
+        Told::NoQuestion => false,
+    }
+}
+
+/// Takes a line, and returns whether it holds.
+fn take(alloc: Global, judge: &mut Judge, line: &[u8]) -> Result<bool, LabFault>
+    ensures { IfOk result (λ met. (met ≡ is_met (judged judge.old (whole_line line.now)).0)
+        × (judge.new ≡ (judged judge.old (whole_line line.now)).1)) }
+{
+    let mut whole = Vec::new(alloc);
+    whole.extend_from_slice(line)?;
+    whole.push(b'\n')?;
+    let told = judge.take(alloc, &whole)?;
+    Ok(is_met(told))
+}
+
+/// Returns whether all lines of a script hold.
+pub(crate) fn holds_throughout(alloc: Global, script: &[u8]) -> Result<bool, LabFault>
+    ensures { IfOk result (λ holds. holds ≡ holds_throughout script.now) }
+{
+    let mut judge = Judge::new(alloc)?;
+    let mut lines = Lines::new(script);
+    let mut holds = true;
+    while let Some(line) = lines.next_line() {
+        holds &= take(alloc, &mut judge, line)?;
+    }
+    Ok(holds)
+}
