@@ -6,6 +6,7 @@
 #   LIBS    a folder with the libraries, as NAME.rlib, in place of crates/*/out
 #   MODULE  a module that was made before: nothing is proved or compiled
 #   KEEP    a file to which the module is copied
+#   FLAGS   more flags of `rattle build`, as --incremental DIR
 set -eu
 cd "$(dirname "$0")"
 here=$PWD
@@ -22,7 +23,8 @@ if [ -z "${MODULE:-}" ]; then
             ln -s "$library" "$LIBS/"
         done
     fi
-    # a toolchain whose clang keeps the module that it is given
+    # a toolchain whose clang keeps the module that it is given, and compiles nothing: nobody needs
+    # the static library
     mkdir -p "$room/tool/bin"
     for tool in "$KIT"/toolchain/bin/*; do
         ln -s "$tool" "$room/tool/bin/"
@@ -31,12 +33,14 @@ if [ -z "${MODULE:-}" ]; then
     rm "$room/tool/bin/clang"
     cat >"$room/tool/bin/clang" <<END
 #!/bin/sh
+before=
 for word in "\$@"; do
     case "\$word" in
     *.bc) cp "\$word" '$room/module.bc' ;;
     esac
+    [ "\$before" != -o ] || : >"\$word"
+    before=\$word
 done
-exec '$KIT/toolchain/bin/clang' "\$@"
 END
     chmod +x "$room/tool/bin/clang"
 
@@ -49,7 +53,7 @@ END
         "$KIT/bin/rattle" build --crate-name mcs_c src/lib.rt --crate-type staticlib \
             --extern "std=$KIT/rlibs/std.rlib" -L "dependency=$KIT/rlibs" $libraries -L "dependency=$LIBS" \
             --antt-project "$KIT/rattle/logic/antt-project.json" --logic-built "$KIT/logic_built" \
-            --links mcs_c= --toolchain "$room/tool" -o "$room/libmcs_c.a"
+            --links mcs_c= ${FLAGS:-} --toolchain "$room/tool" -o "$room/libmcs_c.a"
     ) >"$room/build.log" 2>&1 || {
         cat "$room/build.log"
         exit 1

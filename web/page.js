@@ -53,6 +53,7 @@ class Caller {
   }
 }
 
+const superseded = 'the text changed';
 let typing, searching;
 // the texts that are shown, and what came of them
 let shown = { script: '', lines: null, of: 0, name: '' };
@@ -493,8 +494,24 @@ const scriptOf = async text => {
   return { script: told.text, lines: numbers.status ? null : numbersOf(numbers) };
 };
 
+// Shows the script of the text: its run, or that it has many
+const showMade = async () => {
+  if (!made.isUsers) return show({ script: made.script, lines: made.lines, name: '' });
+  const many = 'Users run in many orders: search them under All orders, and open one.';
+  clear();
+  shown = { script: made.script, lines: made.lines, name: '' };
+  find('shown').hidden = true;
+  find('script-text').innerHTML = made.script.split('\n').map(coloured).join('\n');
+  await showPicture({ status: 0, text: '' });
+  find('step').textContent = find('verdict').textContent = many;
+  find('verdict').className = '';
+  return undefined;
+};
+
 const refresh = async () => {
   const mine = ++round;
+  // calls of a text that is no more shown are not waited for
+  if (typing && typing.waiting.size > 8) typing.stop(superseded);
   const text = find('text').value;
   find('lesson').hidden = !goalOf(text);
   if (!typing) return;
@@ -502,12 +519,13 @@ const refresh = async () => {
   if (mine !== round) return;
   hereLine = 0;
   clear();
-  if (isSearching) searching.stop('the text changed');
+  if (isSearching) searching.stop(superseded);
   showFound({ text: '' }, '');
   tellProgress('');
   if (next.fault) {
     made = { script: '', lines: null, isUsers: false };
     shown = { script: '', lines: null, name: '' };
+    find('shown').hidden = true;
     find('script-text').textContent = '';
     tellFault(next.fault, next.fault.line);
     await showPicture({ status: 2, text: '' });
@@ -517,26 +535,15 @@ const refresh = async () => {
   mark(0, '');
   made = { ...next, isUsers: isUsers(next.script) };
   setSearching(false);
-  if (made.isUsers) {
-    shown = { script: made.script, lines: made.lines, name: '' };
-    find('shown').hidden = true;
-    find('script-text').innerHTML = made.script.split('\n').map(coloured).join('\n');
-    await showPicture({ status: 0, text: '' });
-    find('step').textContent = 'Users run in many orders: search them under All orders, and open one.';
-    find('verdict').textContent = 'Users run in many orders: search them under All orders, and open one.';
-    find('verdict').className = '';
-    tellProgress('');
-    return;
-  }
-  tellProgress('The text has steps, and so one order. A plan with users or programs has many.');
-  await show({ script: made.script, lines: made.lines, name: '' });
+  if (!made.isUsers) tellProgress('The text has steps, and so one order. A plan with users or programs has many.');
+  await showMade();
 };
 
 const guarded = work => async (...words) => {
   try {
     await work(...words);
   } catch (fault) {
-    mark(0, `The call ended: ${fault.message}. The page goes on.`);
+    if (fault.message !== superseded) mark(0, `The call ended: ${fault.message}. The page goes on.`);
   }
 };
 const refreshed = guarded(refresh);
@@ -675,7 +682,8 @@ const listen = () => {
     if (row) guarded(go)(row.dataset.line);
   });
   find('shown-back').addEventListener('click', () => {
-    refreshed();
+    hereLine = 0;
+    guarded(showMade)();
     find('text').focus();
   });
   find('search').addEventListener('click', () => search());

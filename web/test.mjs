@@ -198,7 +198,9 @@ const keysAndLinks = async () => {
     .filter(one => !one.textContent.trim() && !one.getAttribute('aria-label') && !one.getAttribute('aria-labelledby') && !(one.labels && one.labels.length)).map(one => one.id).join(' ')`);
   check(unnamed === '', `without a name for a screen reader: ${unnamed}`);
   await run('setText("# Größe → 1\\nendpoint e\\n")');
-  const hash = await run('toLink(find("text").value)');
+  await run('find("link").click()');
+  check(await until('location.hash.startsWith("#text=")'), 'no link is put into the address');
+  const hash = await run('location.hash');
   check(await open(hash) && await run('find("text").value') === '# Größe → 1\nendpoint e\n', 'a link carries another text');
 };
 

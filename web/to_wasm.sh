@@ -16,7 +16,7 @@ trap 'rm -rf "$room"' EXIT
 "$CLANG" --target=x86_64-unknown-linux-gnu -S -emit-llvm -x ir "$module" -Xclang -disable-llvm-passes -O3 -o "$room/x64.ll"
 sed 's/^target datalayout = .*/target datalayout = "e-m:e-p:64:64-p10:8:8-p20:8:8-i64:64-i128:128-n32:64-S128-ni:1:10:20"/
 s/^target triple = .*/target triple = "wasm64-unknown-unknown"/
-s/ "probe-stack"="inline-asm"//; s/ "stack-probe-size"="[0-9]*"//; s/ "target-cpu"="[^"]*"//; s/ "tune-cpu"="[^"]*"//' "$room/x64.ll" >"$room/wasm.ll"
+s/ "probe-stack"="inline-asm"//; s/ "stack-probe-size"="[0-9]*"//; s/ "target-cpu"="[^"]*"//; s/ "tune-cpu"="[^"]*"//; s/ "target-features"="[^"]*"//' "$room/x64.ll" >"$room/wasm.ll"
 flags="--target=wasm64-unknown-unknown -mbulk-memory -O${LEVEL:-3} -ffreestanding -fno-builtin"
 "$CLANG" $flags -ffunction-sections -fdata-sections -c -x ir "$room/wasm.ll" -o "$room/module.o"
 "$CLANG" $flags -std=c11 -Wall -Wextra -Wno-incompatible-library-redeclaration -c "$here/heap.c" -o "$room/heap.o"
@@ -27,5 +27,5 @@ for name in mcs_take mcs_give_back "$@"; do
 done
 # the toolchain's clang is each of its tools, by the name that it is called
 ln -s "$CLANG" "$room/wasm-ld"
-"$room/wasm-ld" -mwasm64 --no-entry --gc-sections --strip-all --stack-first -z stack-size=1048576 $exports \
+"$room/wasm-ld" -mwasm64 --no-entry --gc-sections --strip-all --stack-first -z stack-size=8388608 $exports \
     "$room/module.o" "$room/heap.o" -o "$out"
