@@ -173,7 +173,7 @@ const lineButton = line => {
 // A line of a report, with the line of the text that it names as a button
 const reportLine = (text, kind) => {
   const item = element('li', undefined, kind);
-  const [, before, number, behind] = /^((?:.* - )?)line (\d+)(: .*)$/s.exec(text) || /^( {2}line: )(\d+)()$/.exec(text) || [];
+  const [, before, number, behind] = /^((?:.* - )?)line (\d+)(: .*)$/s.exec(text) || /^( {2})line: (\d+)()$/.exec(text) || [];
   const line = number && lineOf(Number(number));
   if (!line) {
     item.textContent = text;
@@ -482,6 +482,8 @@ const clear = () => {
   find('why').replaceChildren();
   find('trace-text').textContent = '';
   find('verdict').textContent = '';
+  find('state-at').textContent = '';
+  find('tables').replaceChildren();
   lastState = '';
 };
 
