@@ -48,3 +48,18 @@ pub record Checks (script : List ℕ) (status : ℕ) (old new : List ℕ) (end :
   pub wrote : HandsOut text old new end.length
   pub ends : Ends ending status end
   pub is : IsChecked script ending
+
+-- a call ends so by some answer, and memory was not refused
+pub record IsTold (e : Ending) : Type 0 where
+  pub answer : Result Bool LabFault
+  pub is : e ≡ check_ending answer
+  pub granted : e.status ≡ 6 → ⊥
+
+-- what a call leaves that explains, shows or draws a script: of a text as much as there is room
+-- for, with how it was answered
+pub record Tells (status : ℕ) (old new : List ℕ) (end : McsEnd) : Type 0 where
+  pub text : List ℕ
+  pub ending : Ending
+  pub wrote : HandsOut text old new end.length
+  pub ends : Ends ending status end
+  pub is : IsTold ending

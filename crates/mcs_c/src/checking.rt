@@ -1,5 +1,5 @@
 //! Scripts that test themselves.
-ghost use Rattle.std.specs.Prelude.{◌≡◌, ◌⊎◌, true, IfOk, Ok};
+ghost use Rattle.std.specs.Prelude.{◌≡◌, ◌⊎◌, true, IfOk};
 ghost use Rattle.mcs_c.specs.Handing.{IsRefused};
 ghost use Rattle.mcs_c.specs.Checks.{Checks, IsChecked, check_ending, lab_ending, why_number};
 ghost use Rattle.mcs_c.specs.Verdicts.{holds_throughout};
@@ -42,14 +42,14 @@ pub(crate) fn lab_ending(fault: LabFault) -> Ending
     }
 }
 
-/// How a call ends where all lines hold, or some do not.
-fn met_ending(met: bool) -> Ending
-    ensures { result ≡ check_ending (Ok met) }
+/// How a call ends where it was answered so.
+pub(crate) fn check_ending(answer: Result<bool, LabFault>) -> Ending
+    ensures { result ≡ check_ending answer }
 {
-    if met {
-        Ending::of_status(0)
-    } else {
-        Ending::of_status(1)
+    match answer {
+        Ok(true) => Ending::of_status(0),
+        Ok(false) => Ending::of_status(1),
+        Err(fault) => lab_ending(fault),
     }
 }
 
@@ -90,7 +90,7 @@ fn ending_of(
     if !is_borne_out(alloc, script, met)? {
         return Ok(Ending::of_status(WRONG));
     }
-    Ok(met_ending(met))
+    Ok(check_ending(Ok(met)))
 }
 
 /// Checks a script, and returns the verdicts, with how the call ends.
