@@ -145,9 +145,10 @@ impl<P: Progress> Watch for Watched<'_, P> {
             &mut self.failed,
         );
         self.answers.note_turn(answer, place, turn)?;
-        let all = brought(self.alloc, walk)?;
-        note_mail(&mut self.answers, users, from, &all, place, turn)?;
-        self.lives.see_turn(users, place, turn, answer, from, &all)
+        let reached = brought(self.alloc, walk)?;
+        let all = reached.as_slice();
+        note_mail(&mut self.answers, users, from, all, place, turn)?;
+        self.lives.see_turn(users, place, turn, answer, from, all)
     }
 
     fn goes_on(&self) -> bool {

@@ -12,10 +12,10 @@ loop-reached-preserved c = λ new noted.
     let i = c.loop-reached.reached-index in
     let all = c.args.all.now in
     let there : slice_get all i ≡ Some c.reached-item.result = slice_get_read all _ i c.reached-item.result refl c.loop-reached-test.true c.reached-item.is in
-    c.loop-reached.invariant new (mail-on c.args.users.now c.args.walk.now c.args.place c.args.turn all i c.reached-item.result c.loop-reached.answers c.note_reached.new.answers there c.in_ok-note_reached.ensures new noted)
+    c.loop-reached.invariant new (mail-on c.args.users.now c.args.from.now c.args.place c.args.turn all i c.reached-item.result c.loop-reached.answers c.note_reached.new.answers there c.in_ok-note_reached.ensures new noted)
 
 pub returns : goal.returns
 returns c =
     let all = c.args.all.now in
     let long : length all ≤ c.loop-reached.reached-index = let done = c.loop-reached-test.false in omega (arith, done) in
-    all-noted c.args.users.now c.args.walk.now c.args.place c.args.turn all c.loop-reached.reached-index c.args.answers.now c.loop-reached.answers long c.loop-reached.invariant
+    all-noted c.args.users.now c.args.from.now c.args.place c.args.turn all c.loop-reached.reached-index c.args.answers.now c.loop-reached.answers long c.loop-reached.invariant
