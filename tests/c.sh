@@ -111,7 +111,7 @@ run() {
     "$@" "$to/microkit" || fail "$by: Microkit's handlers"
     # each order is a process of its own: but in the plain programs, a few
     few=
-    [ "$by" = plain ] || few="explore 6"
+    [ "$by" = plain ] || few="explore 3"
     "$@" "$to/mended" $few || fail "$by: the mended server"
     "$@" "$to/files" "$room/stuck.mcs" && fail "$by: no seed finds the deadlock"
     back "$room/stuck.mcs"
