@@ -120,8 +120,10 @@ run() {
     "$@" "$to/layer" || fail "$by: the layer"
     "$@" "$to/ten_lines" || fail "$by: the test in ten lines"
     "$@" "$to/microkit" || fail "$by: Microkit's handlers"
-    # each seed is a process of its own: under a tool, a few
-    "$@" "$to/mended" ${1:+explore 6} || fail "$by: the mended server"
+    # each order is a process of its own: but in the plain programs, a few
+    few=
+    [ "$by" = plain ] || few="explore 3"
+    "$@" "$to/mended" $few || fail "$by: the mended server"
     "$@" "$to/files" "$room/stuck.mcs" && fail "$by: no seed finds the deadlock"
     back "$room/stuck.mcs"
     [ $# = 0 ] || return 0
