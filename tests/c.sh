@@ -89,17 +89,6 @@ done_so() {
         fail "$1 $2: the library refuses another line"
 }
 
-# shown_so FILE: mcslab and the library explain, show and draw a script alike
-shown_so() {
-    for how in "why" "state --json" "draw"; do
-        "$MCSLAB" $how "$1" >"$room/want" 2>/dev/null
-        want=$?
-        "$room/plain/tool" ${how%% *} <"$1" >"$room/got" 2>/dev/null
-        got=$?
-        cmp -s "$room/want" "$room/got" && [ $want = $got ] || fail "$how $1: the library gives another text or status ($got, not $want)"
-    done
-}
-
 # line_in FILE: the number of the line that a fault names
 line_in() {
     sed -n '1s/^\(mcslab: \)\{0,1\}line \([0-9]*\): .*/\2/p; 1s/^[^ ]*:\([0-9]*\): .*/\1/p' "$1"
@@ -199,7 +188,6 @@ if [ -x "$MCSLAB" ]; then
     for file in $(find "$data" tests/lab tests/faults -name '*.mcs' | sort); do
         done_so check "$file"
         done_so explore "$file"
-        shown_so "$file"
         count=$((count + 1))
     done
     for plan in $(find "$data" tests/faults -name '*.plan' | sort); do

@@ -498,7 +498,8 @@ const scriptOf = async text => {
   const told = await typing.call('mcs_compile', text);
   if (told.status) return { fault: told };
   const numbers = await typing.call('mcs_number', text);
-  return { script: told.text, lines: numbers.status || !numbers.text ? null : numbersOf(numbers) };
+  // without numbers no line of the plan is known
+  return { script: told.text, lines: numbers.status ? [] : numbersOf(numbers) };
 };
 
 // Shows the script of the text: its run, or that it has many

@@ -13,11 +13,9 @@
  * Each call returns a number of this table:
  *
  *   0 MCS_OK         done, and all that was wanted holds
- *   1 MCS_UNMET      done; something that is wanted does not hold (mcs_check, mcs_explore,
- *                    mcs_search), or something is stuck (mcs_why)
+ *   1 MCS_UNMET      done; something that is wanted does not hold (mcs_check, mcs_explore)
  *   2 MCS_REFUSED    a line is refused: end->line says which, end->fault why
- *   3 MCS_STOPPED    the budget ended the search, and nothing failed so far (mcs_explore,
- *                    mcs_search)
+ *   3 MCS_STOPPED    the budget ended the search, and nothing failed so far (mcs_explore)
  *   5 MCS_BOOK_FULL  the book is full at a step
  *   6 MCS_NO_MEMORY  memory is refused: nothing is written, neither at `out` nor at `end`
  *   7 MCS_WRONG      never; it would be a fault of the library
@@ -87,30 +85,6 @@ uint32_t mcs_compile(const uint8_t *plan, size_t plan_length,
  * says why there is none. */
 uint32_t mcs_explore(const uint8_t *script, size_t script_length, uint64_t states,
                      uint8_t *out, size_t room, mcs_end *end);
-
-/* Does the same, and writes behind the report the shortest scripts of steps to each kind of end, to
- * threads that are stuck, and to what a question asks: each behind a line `== NAME`, as no line of a
- * script or of a report begins. */
-uint32_t mcs_search(const uint8_t *script, size_t script_length, uint64_t states,
-                    uint8_t *out, size_t room, mcs_end *end);
-
-/* Numbers the lines of the script of a plan. The text has for each of its lines the number of the
- * line of the plan of which it came, in a line of its own; after 2 it is that of mcs_compile. */
-uint32_t mcs_number(const uint8_t *plan, size_t plan_length,
-                    uint8_t *out, size_t room, mcs_end *end);
-
-/* Explains each step of a script that did nothing, and what is stuck at its end, as `mcslab why`
- * does: 0 where nothing is stuck, 1 where something is. */
-uint32_t mcs_why(const uint8_t *script, size_t script_length,
-                 uint8_t *out, size_t room, mcs_end *end);
-
-/* Writes the state at the end of a script, as `mcslab state --json` does. */
-uint32_t mcs_state(const uint8_t *script, size_t script_length,
-                   uint8_t *out, size_t room, mcs_end *end);
-
-/* Draws a script, as `mcslab draw` does. The text is SVG; a script without a boot has none. */
-uint32_t mcs_draw(const uint8_t *script, size_t script_length,
-                  uint8_t *out, size_t room, mcs_end *end);
 
 #ifdef __cplusplus
 }

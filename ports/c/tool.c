@@ -1,6 +1,6 @@
 /* tool: the calls of mcs.h as commands, which read the standard input and write their text:
  *
- *   tool replay | steps | check | why | state | draw | compile | number | explore | search [STATES]
+ *   tool replay | steps | check | compile | explore [STATES]
  *
  * With `steps` each line is a call of mcs_step, and the text is what these add. The exit status is
  * that of the call. A line that says why compile or explore has no text goes to standard error. */
@@ -45,16 +45,6 @@ static uint32_t fill(const struct command *command, const uint8_t *text, size_t 
         return mcs_compile(text, n, out, room, end);
     if (is(command, "explore"))
         return mcs_explore(text, n, command->states, out, room, end);
-    if (is(command, "search"))
-        return mcs_search(text, n, command->states, out, room, end);
-    if (is(command, "number"))
-        return mcs_number(text, n, out, room, end);
-    if (is(command, "why"))
-        return mcs_why(text, n, out, room, end);
-    if (is(command, "state"))
-        return mcs_state(text, n, out, room, end);
-    if (is(command, "draw"))
-        return mcs_draw(text, n, out, room, end);
     return mcs_replay(text, n, out, room, end);
 }
 

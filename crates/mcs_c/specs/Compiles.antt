@@ -57,15 +57,3 @@ pub record Compiles (status : ℕ) (old new : List ℕ) (end : McsEnd) : Type 0 
   pub wrote : HandsOut text old new end.length
   pub ends : Ends ending status end
   pub is : IsCompiled text ending
-
--- of a plan that became a script the lines were numbered, or none came of it
-abbrev pub IsNumbered : Ending → Type 0
-IsNumbered e = (e ≡ with_status 0) ⊎ IsPlanRefused e
-
--- what `mcs_number` leaves: of a text as much as there is room for, with how a plan was compiled
-pub record Numbers (status : ℕ) (old new : List ℕ) (end : McsEnd) : Type 0 where
-  pub text : List ℕ
-  pub ending : Ending
-  pub wrote : HandsOut text old new end.length
-  pub ends : Ends ending status end
-  pub is : IsNumbered ending

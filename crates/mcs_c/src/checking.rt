@@ -41,7 +41,7 @@ pub(crate) fn lab_ending(fault: LabFault) -> Ending
 }
 
 /// How a call ends where a check was answered so.
-pub(crate) fn check_ending(answer: Result<bool, LabFault>) -> Ending
+fn check_ending(answer: Result<bool, LabFault>) -> Ending
     ensures { result ≡ check_ending answer }
 {
     match answer {

@@ -1,7 +1,7 @@
 //! Plans that become scripts.
 ghost use Rattle.std.specs.Prelude.{◌≡◌, ◌⊎◌, ◌++◌, IfOk};
 ghost use Rattle.mcs_c.specs.Handing.{IsRefused, with_status};
-ghost use Rattle.mcs_c.specs.Compiles.{Compiles, IsCompiled, IsNumbered, IsPlanRefused, IsScriptOfPlan, Numbers, compile_ending, plan_ending};
+ghost use Rattle.mcs_c.specs.Compiles.{Compiles, IsCompiled, IsPlanRefused, IsScriptOfPlan, compile_ending, plan_ending};
 
 use crate::handing::{Ending, Handed, McsEnd, NO_MEMORY};
 use mcs_plan_source::{PlanFault, Why};
@@ -80,31 +80,6 @@ fn compile_text(alloc: Global, plan: &[u8]) -> Result<Handed, OutOfMemory>
     }
 }
 
-/// Returns numbers, each in a line of its own.
-fn lines_of(alloc: Global, numbers: &[u64]) -> Result<Vec<u8>, OutOfMemory> {
-    let mut text = Vec::new(alloc);
-    for number in numbers {
-        if writeln!(text, "{number}").is_err() {
-            return Err(OutOfMemory);
-        }
-    }
-    Ok(text)
-}
-
-/// Compiles a plan, and returns of which of its lines each line of the script came, or why there is
-/// no script, with how the call ends.
-fn number_text(alloc: Global, plan: &[u8]) -> Result<Handed, OutOfMemory>
-    ensures { IfOk result (λ h. IsNumbered h.ending) }
-{
-    match load(alloc, plan) {
-        Ok(Loaded { numbers, .. }) => Ok(Handed {
-            text: lines_of(alloc, &numbers)?,
-            ending: Ending::of_status(0),
-        }),
-        Err(fault) => refuse(alloc, &fault),
-    }
-}
-
 /// Compiles a plan, and writes as much of the script as there is room for. Returns 0 where there is
 /// a script; 2 where a line is refused, and the text says why; 6 where memory is refused, and
 /// nothing is written.
@@ -114,20 +89,6 @@ pub extern "C" fn mcs_compile(alloc: Global, plan: &[u8], out: &mut [u8], end: &
         ⊎ Compiles result out.old out.new end.new }
 {
     match compile_text(alloc, plan) {
-        Ok(handed) => handed.hand_over(out, end),
-        Err(OutOfMemory) => NO_MEMORY,
-    }
-}
-
-/// Compiles a plan, and writes as much as there is room for of the numbers of its lines: for each
-/// line of the script that of the line of which it came, in a line of its own. The statuses are
-/// those of `mcs_compile`.
-#[unsafe(no_mangle)]
-pub extern "C" fn mcs_number(alloc: Global, plan: &[u8], out: &mut [u8], end: &mut McsEnd) -> u32
-    ensures { IsRefused result out.old out.new end.old end.new
-        ⊎ Numbers result out.old out.new end.new }
-{
-    match number_text(alloc, plan) {
         Ok(handed) => handed.hand_over(out, end),
         Err(OutOfMemory) => NO_MEMORY,
     }

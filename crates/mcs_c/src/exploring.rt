@@ -74,40 +74,9 @@ fn refuse(alloc: Global, fault: &ExploreFault) -> Result<Handed, OutOfMemory>
     }
 }
 
-/// Keeps scripts as one text: before each a line `== NAME`, as no line of a script begins.
-#[derive(Drop)]
-struct Kept {
-    text: Vec<u8>,
-}
-
-impl Saves for Kept {
-    fn wants(&self) -> bool {
-        true
-    }
-
-    fn save(
-        &mut self,
-        _alloc: Global,
-        _script: &UserScript,
-        name: &str,
-        text: &[u8],
-    ) -> Result<(), LabFault> {
-        self.text.extend_from_slice(b"== ")?;
-        self.text.extend_from_slice(name.as_bytes())?;
-        self.text.extend_from_slice(b"\n")?;
-        self.text.extend_from_slice(text)?;
-        Ok(())
-    }
-}
-
 /// Goes through all orders of a script, as far as so many states, and returns the report, or why
 /// there is none, with how the call ends.
-fn explore_text<S: Saves>(
-    alloc: Global,
-    script: &[u8],
-    states: u64,
-    saves: &mut S,
-) -> Result<Handed, OutOfMemory>
+fn explore_text(alloc: Global, script: &[u8], states: u64) -> Result<Handed, OutOfMemory>
     ensures { IfOk result (λ h. IsExplored script.now h.ending) }
 {
     let mut text = Vec::new(alloc);
@@ -121,26 +90,13 @@ fn explore_text<S: Saves>(
         is_json: false,
     };
     let mut source = Source::new(script);
-    match explore_script(alloc, &mut source, &mut text, wanted, output, saves) {
+    match explore_script(alloc, &mut source, &mut text, wanted, output, &mut Nowhere) {
         Ok(explored) => Ok(Handed {
             text,
             ending: explored_ending(explored),
         }),
         Err(fault) => refuse(alloc, &fault),
     }
-}
-
-/// Does the same, and returns behind the report the scripts of what it says.
-fn search_text(alloc: Global, script: &[u8], states: u64) -> Result<Handed, OutOfMemory>
-    ensures { IfOk result (λ h. IsExplored script.now h.ending) }
-{
-    let mut kept = Kept {
-        text: Vec::new(alloc),
-    };
-    let Handed { text, ending } = explore_text(alloc, script, states, &mut kept)?;
-    let mut text = text;
-    text.extend_from_slice(&kept.text)?;
-    Ok(Handed { text, ending })
 }
 
 /// Goes through all orders of the users of a script, as far as so many states, and writes as much
@@ -159,26 +115,7 @@ pub extern "C" fn mcs_explore(
     ensures { IsRefused result out.old out.new end.old end.new
         ⊎ Explores script.now result out.old out.new end.new }
 {
-    match explore_text(alloc, script, states, &mut Nowhere) {
-        Ok(handed) => handed.hand_over(out, end),
-        Err(OutOfMemory) => NO_MEMORY,
-    }
-}
-
-/// Does the same, and writes behind the report the shortest scripts of steps to each kind of end,
-/// to users that are stuck and to what a question asks, each behind a line `== NAME`.
-#[unsafe(no_mangle)]
-pub extern "C" fn mcs_search(
-    alloc: Global,
-    script: &[u8],
-    states: u64,
-    out: &mut [u8],
-    end: &mut McsEnd,
-) -> u32
-    ensures { IsRefused result out.old out.new end.old end.new
-        ⊎ Explores script.now result out.old out.new end.new }
-{
-    match search_text(alloc, script, states) {
+    match explore_text(alloc, script, states) {
         Ok(handed) => handed.hand_over(out, end),
         Err(OutOfMemory) => NO_MEMORY,
     }

@@ -1,14 +1,11 @@
-//! The simulator and its tools as a library for C, and for a page (`web/`): bytes in, bytes
-//! out.
+//! The simulator and its tools as a library for C: bytes in, bytes out.
 //!
 //! ```text
 //! C ── script ──> mcs_replay ── trace ──> C        the whole text
 //! C ── text so far, line ──> mcs_step ── what it adds ──> C
 //! C ── script ──> mcs_check ── verdicts ──> C
 //! C ── plan ──> mcs_compile ── script ──> C
-//! C ── plan ──> mcs_number ── the lines of which the script's came ──> C
-//! C ── script ──> mcs_why, mcs_state, mcs_draw ── what did nothing, state, picture ──> C
-//! C ── script of users, states ──> mcs_explore, mcs_search ── report; with scripts ──> C
+//! C ── script of users, states ──> mcs_explore ── report ──> C
 //! ```
 //!
 //! Nothing is kept between two calls, and no call calls C back. `ports/c/mcs.h` has the same
@@ -21,7 +18,6 @@ mod compiling;
 mod exploring;
 mod handing;
 mod replaying;
-mod showing;
 mod telling;
 
 pub use handing::McsEnd;

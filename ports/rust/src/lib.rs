@@ -2,8 +2,7 @@
 //!
 //! ```text
 //! script ── replay ──> trace          script ── check ──> verdicts
-//! script ── why, state, draw ──> what did nothing, JSON, SVG
-//! plan ── compile ──> script          script of users ── explore, search ──> report, with scripts
+//! plan ── compile ──> script          script of users ── explore ──> report
 //! Run: lines ── take ──> what each adds to the trace
 //! ```
 //!
@@ -117,26 +116,6 @@ pub fn check(script: &[u8]) -> Result<Report, Error> {
     called(raw::mcs_check, script)
 }
 
-/// Explains each step of a script that did nothing, and what is stuck, as `mcslab why` does.
-pub fn why(script: &[u8]) -> Result<Report, Error> {
-    called(raw::mcs_why, script)
-}
-
-/// Returns the state at the end of a script, as `mcslab state --json` does.
-pub fn state(script: &[u8]) -> Result<Report, Error> {
-    called(raw::mcs_state, script)
-}
-
-/// Draws a script as SVG, as `mcslab draw` does.
-pub fn draw(script: &[u8]) -> Result<Report, Error> {
-    called(raw::mcs_draw, script)
-}
-
-/// Returns for each line of the script of a plan the number of the plan's line of which it came.
-pub fn number(plan: &[u8]) -> Result<Report, Error> {
-    called(raw::mcs_number, plan)
-}
-
 /// Compiles a plan, and returns its script, as `mcslab compile` does; or a line that says why there
 /// is none.
 pub fn compile(plan: &[u8]) -> Result<Report, Error> {
@@ -146,23 +125,9 @@ pub fn compile(plan: &[u8]) -> Result<Report, Error> {
 /// Goes through all orders of the users of a script, finding no more than so many states, and
 /// returns the report, as `mcslab explore` does; or a line that says why there is none.
 pub fn explore(script: &[u8], states: u64) -> Result<Report, Error> {
-    sought(raw::mcs_explore, script, states)
-}
-
-/// Does the same, and returns behind the report the shortest script of steps to each thing that it
-/// tells, each behind a line `== NAME`.
-pub fn search(script: &[u8], states: u64) -> Result<Report, Error> {
-    sought(raw::mcs_search, script, states)
-}
-
-/// A call of `mcs.h` that goes through all orders.
-type Search = unsafe extern "C" fn(*const u8, usize, u64, *mut u8, usize, *mut raw::mcs_end) -> u32;
-
-/// Returns what such a call writes.
-fn sought(call: Search, script: &[u8], states: u64) -> Result<Report, Error> {
     // SAFETY: as in `called`.
     whole(room_for(script.len()), |out, end| unsafe {
-        call(
+        raw::mcs_explore(
             script.as_ptr(),
             script.len(),
             states,

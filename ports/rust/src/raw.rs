@@ -61,45 +61,4 @@ unsafe extern "C" {
         room: usize,
         end: *mut mcs_end,
     ) -> u32;
-
-    pub fn mcs_search(
-        script: *const u8,
-        script_length: usize,
-        states: u64,
-        out: *mut u8,
-        room: usize,
-        end: *mut mcs_end,
-    ) -> u32;
-
-    pub fn mcs_number(
-        plan: *const u8,
-        plan_length: usize,
-        out: *mut u8,
-        room: usize,
-        end: *mut mcs_end,
-    ) -> u32;
-
-    pub fn mcs_why(
-        script: *const u8,
-        script_length: usize,
-        out: *mut u8,
-        room: usize,
-        end: *mut mcs_end,
-    ) -> u32;
-
-    pub fn mcs_state(
-        script: *const u8,
-        script_length: usize,
-        out: *mut u8,
-        room: usize,
-        end: *mut mcs_end,
-    ) -> u32;
-
-    pub fn mcs_draw(
-        script: *const u8,
-        script_length: usize,
-        out: *mut u8,
-        room: usize,
-        end: *mut mcs_end,
-    ) -> u32;
 }
