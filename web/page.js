@@ -8,6 +8,9 @@
 const find = id => document.getElementById(id);
 const data = JSON.parse(find('data').textContent);
 
+// The exports of the module; a view whose export is missing is not there
+let exported = new Set();
+
 // A worker with the module. Calls are answered in their order; a call that is stopped, or that
 // ends the module, is refused, and the next one starts a new worker.
 class Caller {
@@ -36,7 +39,8 @@ class Caller {
     this.worker.onerror = event => this.stop(event.message || 'the worker ended');
   }
 
-  call(name, text, states) {
+  async call(name, text, states) {
+    if (!exported.has(name)) return { status: 0, text: '', line: 0, fault: 0 };
     if (!this.worker) this.start();
     const id = ++this.last;
     return new Promise((good, bad) => {
@@ -386,10 +390,11 @@ const showFound = (told, script) => {
     item.append(button);
     return item;
   });
-  const asked = text.split('\n').filter(line => /^question at line \d+: .*: holds/.test(line));
+  const listed = scripts.length ? /^question at line \d+: .*: holds/ : /^(end|stuck) \d+: |^question at line \d+: /;
+  const asked = text.split('\n').filter(line => listed.test(line));
   const held = asked.map(line => {
     const item = element('li');
-    item.append(element('span', questionLine(line), 'holds'));
+    item.append(element('span', questionLine(line), /: holds/.test(line) ? 'holds' : ''));
     return item;
   });
   find('found').replaceChildren(...items, ...held);
@@ -421,7 +426,7 @@ const search = async () => {
   try {
     for (const states of budgets.filter(one => one < most).concat(most)) {
       count();
-      told = await searching.call('mcs_search', script, states);
+      told = await searching.call(exported.has('mcs_search') ? 'mcs_search' : 'mcs_explore', script, states);
       if (script !== made.script) return null;
       if (refusedBy(told)) {
         tellProgress(told.status === 6 ? 'Memory is refused: what was found before stands below.' : 'No search: a line is refused.');
@@ -493,7 +498,8 @@ const scriptOf = async text => {
   const told = await typing.call('mcs_compile', text);
   if (told.status) return { fault: told };
   const numbers = await typing.call('mcs_number', text);
-  return { script: told.text, lines: numbers.status ? null : numbersOf(numbers) };
+  // without numbers no line of the plan is known
+  return { script: told.text, lines: numbers.status ? [] : numbersOf(numbers) };
 };
 
 // Shows the script of the text: its run, or that it has many
@@ -569,7 +575,19 @@ const setText = text => {
 
 // ---- tabs
 
-const tabs = [...document.querySelectorAll('[role=tab]')];
+let tabs = [...document.querySelectorAll('[role=tab]')];
+
+// Takes the views away that the module has nothing for
+const leaveOut = () => {
+  const missing = { picture: 'mcs_draw', state: 'mcs_state' };
+  for (const [name, needed] of Object.entries(missing)) {
+    find(`tab-${name}`).hidden = !exported.has(needed);
+    find(name).hidden = true;
+  }
+  find('why-part').hidden = !exported.has('mcs_why');
+  tabs = tabs.filter(tab => !tab.hidden);
+  choose(tabs[0].id.slice(4));
+};
 
 const choose = name => {
   for (const tab of tabs) {
@@ -581,9 +599,10 @@ const choose = name => {
   if (name === 'picture' || name === 'state') step();
 };
 
-for (const [at, tab] of tabs.entries()) {
+for (const tab of tabs) {
   tab.addEventListener('click', () => choose(tab.id.slice(4)));
   tab.addEventListener('keydown', event => {
+    const at = tabs.indexOf(tab);
     const to = { ArrowRight: at + 1, ArrowLeft: at + tabs.length - 1, Home: 0, End: tabs.length - 1 }[event.key];
     if (to === undefined) return;
     const next = tabs[to % tabs.length];
@@ -642,7 +661,7 @@ const openExample = async path => {
   history.replaceState(null, '', '#example=' + encodeURIComponent(path));
   await setText(example.text);
   if (made.isUsers) choose('orders');
-  else if (!find('orders').hidden) choose('picture');
+  else if (!find('orders').hidden) choose(tabs[0].id.slice(4));
 };
 
 const openAddress = async () => {
@@ -717,6 +736,8 @@ const start = async () => {
       + 'The texts can be read, changed, and kept as links. A current Chromium (133 or later) or Firefox (134 or later) has them.');
   } else {
     const module = await WebAssembly.compile(await packed(fromBase64(data.module), new DecompressionStream('gzip')));
+    exported = new Set(WebAssembly.Module.exports(module).map(one => one.name));
+    leaveOut();
     typing = new Caller(module);
     searching = new Caller(module);
   }

@@ -118,28 +118,38 @@ const oneExample = async (path, text) => {
   check(await run('find("text").value') === text, `${path}: its text is another one`);
   check(await run('!find("fault").classList.contains("bad")'), `${path}: ${await run('find("fault").textContent')}`);
   const { script, isUsers } = JSON.parse(await run('JSON.stringify(made)'));
-  const beside = join(data, path.replace(/^[^/]*\//, `${path.split('/')[0].toLowerCase()}/`).replace(/\.plan$/, ''));
-  if (hasLab && path.endsWith('.plan')) check(compiled(text) === script, `${path}: another script than mcslab's`);
+  const [group, name] = path.split('/');
+  const beside = join(data, group === 'Scripts' ? '' : group.toLowerCase(), name.replace(/\.[a-z]*$/, ''));
+  if (name.endsWith('.plan')) {
+    if (hasLab) check(compiled(text) === script, `${path}: another script than mcslab's`);
+    if (existsSync(`${beside}.mcs`)) check(readFileSync(`${beside}.mcs`, 'utf8') === script, `${path}: another script than the one beside it`);
+  }
   if (isUsers) await oneSearch(path, script);
   else await oneRun(path, script, beside);
 };
 
 const oneRun = async (path, script, beside) => {
-  const svg = await run('picture && picture.text');
+  if (await has('mcs_draw')) await onePicture(path, script, beside);
   const tap = JSON.parse(await run('(async () => JSON.stringify(await typing.call("mcs_check", made.script)))()'));
-  check(Boolean(svg), `${path}: no picture`);
-  if (!hasLab) {
-    if (path.endsWith('.mcs') && existsSync(`${beside}.svg`)) check(readFileSync(`${beside}.svg`, 'utf8') === svg, `${path}: another picture`);
-    return;
-  }
-  check(lab(['draw'], script).text === svg, `${path}: another picture than mcslab's`);
+  if (!hasLab) return;
   const want = lab(['check'], script);
   check(want.text === tap.text && want.status === tap.status, `${path}: other verdicts than mcslab's`);
   for (const [name, words] of [['mcs_why', ['why']], ['mcs_state', ['state', '--json']]]) {
+    if (!(await has(name))) continue;
     const told = JSON.parse(await run(`(async () => JSON.stringify(await typing.call("${name}", made.script)))()`));
     const wanted = lab(words, script);
     check(wanted.text === told.text && wanted.status === told.status, `${path}: ${name} and mcslab tell other texts`);
   }
+};
+
+// Whether the module has an export; without it a view of the page is not there
+const has = name => run(`exported.has("${name}")`);
+
+const onePicture = async (path, script, beside) => {
+  const svg = await run('picture && picture.text');
+  check(Boolean(svg), `${path}: no picture`);
+  if (existsSync(`${beside}.svg`)) check(readFileSync(`${beside}.svg`, 'utf8') === svg, `${path}: another picture than the one beside it`);
+  if (hasLab) check(lab(['draw'], script).text === svg, `${path}: another picture than mcslab's`);
 };
 
 const oneSearch = async (path, script) => {
@@ -187,14 +197,18 @@ const faults = async () => {
 
 const keysAndLinks = async () => {
   await run('openExample("Gallery/deadlock.plan")');
-  await run('choose("picture"); find("drawing").focus()');
-  const before = await run('Number(find("slider").value)');
-  await run('find("drawing").dispatchEvent(new KeyboardEvent("keydown", { key: "ArrowUp", cancelable: true }))');
-  check(await run('Number(find("slider").value)') === before - 1, 'a key does not step');
-  await run('find("tab-picture").dispatchEvent(new KeyboardEvent("keydown", { key: "ArrowRight", cancelable: true }))');
-  check(await run('!find("verdicts").hidden && find("picture").hidden'), 'a key does not change the view');
-  await run('choose("state")');
-  check(await until('document.querySelectorAll("#tables table").length > 2'), 'no state is shown');
+  if (await has('mcs_draw')) {
+    await run('choose("picture"); find("drawing").focus()');
+    const before = await run('Number(find("slider").value)');
+    await run('find("drawing").dispatchEvent(new KeyboardEvent("keydown", { key: "ArrowUp", cancelable: true }))');
+    check(await run('Number(find("slider").value)') === before - 1, 'a key does not step');
+  }
+  await run('tabs[0].dispatchEvent(new KeyboardEvent("keydown", { key: "ArrowRight", cancelable: true }))');
+  check(await run('tabs[1].getAttribute("aria-selected") === "true" && tabs[0].tabIndex === -1'), 'a key does not change the view');
+  if (await has('mcs_state')) {
+    await run('choose("state")');
+    check(await until('document.querySelectorAll("#tables table").length > 2'), 'no state is shown');
+  }
   const unnamed = await run(`[...document.querySelectorAll('button,select,textarea,input,[role=tabpanel]')]
     .filter(one => !one.textContent.trim() && !one.getAttribute('aria-label') && !one.getAttribute('aria-labelledby') && !(one.labels && one.labels.length)).map(one => one.id).join(' ')`);
   check(unnamed === '', `without a name for a screen reader: ${unnamed}`);
@@ -257,8 +271,7 @@ const widths = async () => {
     for (const path of ['Gallery/nested-calls.plan', 'Explore/disk-log.plan', 'Lessons/1-a-send-that-waits.plan']) {
       await run(`openExample(${JSON.stringify(path)})`);
       if (path.startsWith('Explore')) await run('search()');
-      else await run('choose("picture")');
-      for (const tab of ['picture', 'verdicts', 'orders', 'state', 'trace', 'script']) {
+      for (const tab of await run('tabs.map(tab => tab.id.slice(4))')) {
         await run(`choose("${tab}")`);
         check(await run('document.scrollingElement.scrollWidth <= innerWidth'), `${path}: wider than ${width} pixels: ${tab}`);
         check(await run(`find("${tab}").getBoundingClientRect().width > ${width} / 3`), `${path}: no room at ${width} pixels: ${tab}`);
@@ -269,7 +282,6 @@ const widths = async () => {
   }
   await send('Emulation.setEmulatedMedia', { features: [{ name: 'prefers-color-scheme', value: 'dark' }] });
   await run('openExample("Gallery/nested-calls.plan")');
-  await run('choose("picture")');
   await shot('dark');
   await send('Emulation.setEmulatedMedia', { features: [] });
 };
