@@ -6,7 +6,7 @@ ghost use Rattle.mcs_c.specs.Checks.{IsTold, Tells};
 use crate::checking::check_ending;
 use crate::handing::{Handed, McsEnd, NO_MEMORY};
 use mcs_lab_check::LabFault;
-use mcs_lab_inspect::{Wanted, explain, show_state};
+use mcs_lab_inspect::{Numbers, Wanted, explain, show_state};
 use mcs_lab_render::{Asked, Format, draw_script};
 use mcs_sim::Source;
 use mcs_types::OutOfMemory;
@@ -38,6 +38,7 @@ fn state_text(alloc: Global, script: &[u8]) -> Result<Handed, OutOfMemory>
         at: None,
         stuck: false,
         json: true,
+        numbers: Numbers::Integers,
     };
     let answer = show_state(alloc, &mut Source::new(script), &mut text, wanted);
     hand(text, answer)
