@@ -1,7 +1,7 @@
 -- What is shown of runs, one state or turn after the other.
 use Rattle.std.specs.Prelude.{ℕ, ◌≡◌, ◌++◌, ◌⊎◌, Bool, true, List, [], ◌∷◌, Some, Result, Ok, Err, length, slice_get}
 use Rattle.std.specs.Result.{OnOk}
-use Rattle.std.proofs.Common.{sym, subst, inl, inr}
+use Rattle.std.proofs.Common.{refl, sym, subst, inl, inr}
 use Rattle.mcs_types.specs.declared.entry.Answer.{Answer}
 use Rattle.mcs_book.specs.Boots.{Boot}
 use Rattle.mcs_turns.specs.Turns.{Going, IsOver, User}
