@@ -77,7 +77,7 @@ const element = (name, text, kind) => {
 
 // A script has `cores` and numbers; a plan has names behind these words
 const isScript = text => /^cores\b/m.test(text)
-  && !/^\s*(endpoint|notification|reply|context|cnode|thread|tie|pd|channel)[ \t]+[A-Za-z]/m.test(text);
+  && !/^\s*(endpoint|notification|reply|context|cnode|thread|pd|channel)[ \t]+[A-Za-z]/m.test(text);
 const isUsers = script => /^(user\s|#! [\w.-]+:|#! program\b)/m.test(script);
 
 const span = (kind, text) => text && `<span class="${kind}">${escaped(text)}</span>`;
