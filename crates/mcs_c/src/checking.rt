@@ -105,7 +105,8 @@ fn check_text(alloc: Global, script: &[u8]) -> Result<Handed, OutOfMemory>
 
 /// Checks what a script says of its steps, and writes as much of the verdicts as there is room for.
 /// Returns 0 where all hold and 1 where some does not; 2 where a line is refused and 5 where the
-/// book is full, and the last verdict says so; 6 where memory is refused, and nothing is written.
+/// book is full, and the last verdict says so; 6 where memory is refused, and nothing is written; 7
+/// where the verdicts are not those of the definition, which nobody has seen.
 #[unsafe(no_mangle)]
 pub extern "C" fn mcs_check(alloc: Global, script: &[u8], out: &mut [u8], end: &mut McsEnd) -> u32
     ensures { IsRefused result out.old out.new end.old end.new
