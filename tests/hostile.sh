@@ -60,6 +60,19 @@ rm "$work/lines.plan" "$work/lines.mcs" "$work/trace" "$work/given"
 ends 0 '' why "$work/names.mcs"
 rm "$work/names.mcs"
 
+# A search without an end, with little memory: the report comes with what was found.
+{
+    printf 'cores 8\ncnode 6\nnotification\n'
+    seq 0 7 | sed 's/.*/context &/'
+    seq 8 | sed 's/.*/thread 20 255 c1 58 0 run s&/'
+    printf 'slot c1 1 n1 rw 1\n'
+    for user in 1 2 3 4 5 6 7 8; do yes "user t$user signal 1" | head -n 12; done
+} >"$work/search.mcs"
+HOSTILE_MEMORY=150000 HOSTILE_SECONDS=120 ends 3 '' explore "$work/search.mcs"
+grep -q '^stopped for lack of memory at ' "$work/out" || { echo "hostile.sh: no report for lack of memory"; exit 1; }
+grep -q '^stopped: no deadlock so far' "$work/out" || { echo "hostile.sh: no verdict for lack of memory"; exit 1; }
+rm "$work/search.mcs"
+
 # Bytes that a terminal obeys, in a word, in a name and in the name of a file: told, and not
 # written.
 odd=$(printf 'a\033[31m\007\342\200\256b')

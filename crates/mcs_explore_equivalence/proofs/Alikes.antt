@@ -230,7 +230,7 @@ pub over-there : (numbered : Bool) (users : List User) (boot : Boot) (g h : Goin
 over-there numbered users boot g h a over = λ t f.
     over _ (record { core = f.core; pick = f.pick; turn = turn-there numbered users boot h g (alike-back numbered users boot g h a) f.core f.pick t f.turn })
 
--- alike runs, where numbers are not told apart
+-- alike runs, where numbers are not distinguished
 pub unnumbered-alike : (users : List User) (boot : Boot) (g h : Going) → AreAlike true users boot g h → AreAlike false users boot g h
 unnumbered-alike users boot g h a = record {
   close = record { left = a.close.left; right = a.close.right; logs = but-numbers (log_of g.book) (log_of h.book) a.close.logs; places = a.close.places };

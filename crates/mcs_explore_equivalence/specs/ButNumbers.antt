@@ -72,7 +72,7 @@ Matches R S (Took m p) s = (n : ℕ) × ((Took n p ≡ s) × AreOf R S m n)
 Matches R S (Dropped m) s = (n : ℕ) × ((Dropped n ≡ s) × AreOf R S m n)
 Matches R S r s = r ≡ s
 
--- so are two lists of records, the earliest first
+-- two lists of records match one by one, the earliest first
 abbrev pub MatchAll : Log → Log → List Rec → List Rec → Type 0
 MatchAll R S [] [] = Unit {0}
 MatchAll R S (r ∷ rs) (s ∷ ss) = Matches R S r s × MatchAll (r ∷ R) (s ∷ S) rs ss

@@ -13,7 +13,7 @@ pub record IsLogLikeness (Like : Log → Log → Type 0) : Type 0 where
   pub trans : (R S W : Log) → Like R S → Like S W → Like R W
   pub steps : (b c : Book) (l : Line) → IsLegal (with_one l b) → IsLegal c → Like (log_of b) (log_of c) → Like (log_of (with_one l b)) (log_of (with_one (line_in c l.step) c))
 
--- logs that are alike, where the numbers of messages are told apart, or are so but for numbers
+-- logs that are alike, where the numbers of messages are distinguished, or are so but for numbers
 abbrev pub AlikeBy : Bool → Log → Log → Type 0
 AlikeBy true R S = Alike R S
 AlikeBy false R S = AlikeButNumbers R S

@@ -15,15 +15,15 @@ pub record IsReached (users : List User) (boot : Boot) (g : Going) : Type 0 wher
   pub turns : ℕ
   pub run : IsRun users boot turns g
 
--- two runs have alike logs, in which numbers of messages are told apart or not, and their users are
--- where those of the other are: so their cores have the same picks
+-- two runs have alike logs, in which numbers of messages are distinguished or not, and their users
+-- are where those of the other are: so their cores have the same picks
 pub record AreClose (numbered : Bool) (users : List User) (boot : Boot) (g h : Going) : Type 0 where
   pub left : IsReached users boot g
   pub right : IsReached users boot h
   pub logs : AlikeBy numbered (log_of g.book) (log_of h.book)
   pub places : g.places ≡ h.places
 
--- and each core may enter the same in both: its picks are as good as stale ones
+-- two runs are close, and each core may enter the same in both: its picks are as good as stale ones
 pub record AreAlike (numbered : Bool) (users : List User) (boot : Boot) (g h : Going) : Type 0 where
   pub close : AreClose numbered users boot g h
   pub choices : (picks : List (List Pick)) → ArePicks users g picks → choices picks g.stale ≡ choices picks h.stale
@@ -45,6 +45,6 @@ pub record IsSameTurn (numbered : Bool) (users : List User) (boot : Boot) (core 
   pub newest : SameNewest t.book going.book
   pub alike : AreAlike numbered users boot t going
 
--- so is each turn of one of two alike runs made in the other
+-- each turn of one of two alike runs can be made in the other
 abbrev pub AreSameTurns : Bool → List User → Boot → Type 0
 AreSameTurns numbered users boot = (g h t : Going) (core : CoreId) (k : Pick) → AreAlike numbered users boot g h → IsTurn users core k g t → IsSameTurn numbered users boot core k t h

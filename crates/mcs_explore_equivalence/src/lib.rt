@@ -1,4 +1,5 @@
-//! Logs that no later entry tells apart, and runs that no later turn does (own).
+//! Observational equivalence: logs that no later entry can tell apart, and runs that no later turn
+//! can (own).
 #![tactic(auto)]
 
 mod logs;

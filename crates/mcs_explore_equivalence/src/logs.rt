@@ -1,5 +1,5 @@
-//! Logs that no later entry tells apart: what an entry asks of one has the same answer of the other
-//! (own). Each law is one of definitions, and its function does nothing.
+//! Logs that no later entry can tell apart: each question of an entry has the same answer in both
+//! (own). Each law is about definitions, and its function does nothing.
 ghost use Rattle.std.specs.Prelude.{◌≡◌, ◌∷◌, Bool, List, Option};
 ghost use Rattle.mcs_types.specs.declared.entry.Entry.{Entry};
 ghost use Rattle.mcs_types.specs.declared.id.CoreId.{CoreId};
@@ -19,8 +19,8 @@ ghost use Rattle.mcs_explore_equivalence.specs.Likeness.{AlikeBy, IsLogLikeness}
 ghost use Rattle.mcs_explore_equivalence.specs.Books.{with_one, after_entry, line_in, outcome_of};
 ghost use Rattle.mcs_book.specs.History.{Book, Line, IsLegal, log_of};
 
-/// Two alike logs (at.1, at.2) are alike after the same record (at.0), where it is allowed in both
-/// (own).
+/// Law: two alike logs (at.1, at.2) are alike after the same record (at.0), if the record is
+/// allowed in both (own).
 pub fn alike_after()
     ghost at: { Rec × Log × Log }
     requires alike { Alike at.1 at.2 }
@@ -29,7 +29,7 @@ pub fn alike_after()
     ensures { Alike (at.0 ∷ at.1) (at.0 ∷ at.2) }
 {}
 
-/// They are alike after the same list of records (at.0), the earliest first, where what it leaves
+/// Law: two alike logs are alike after the same list of records (at.0, oldest first), if the result
 /// is sound (own).
 pub fn alike_onto()
     ghost at: { List Rec × Log × Log }
@@ -39,9 +39,9 @@ pub fn alike_onto()
     ensures { Alike (onto at.0 at.1) (onto at.0 at.2) }
 {}
 
-/// Two sound logs (at.0, at.1) are alike where as many objects of each kind were made and as many
-/// messages were sent, and each question that a kernel is asked of what was made has the same
-/// answer of both (own).
+/// Law: two sound logs (at.0, at.1) are alike if as many objects of each kind were made and as many
+/// messages sent, and each question of a kernel about existing objects has the same answer in both
+/// (own).
 pub fn answers_alike()
     ghost at: { Log × Log }
     requires left { Sound at.0 }
@@ -50,8 +50,8 @@ pub fn answers_alike()
     ensures { Alike at.0 at.1 }
 {}
 
-/// An entry (at.4) of a thread that is there (at.3), on a core (at.2), has the same answer and the
-/// same records in two alike logs (at.0, at.1): each of the 27 entries, also the first one after a
+/// Law: an entry (at.4) of an existing thread (at.3) on a core (at.2) has the same answer and
+/// records in two alike logs (at.0, at.1): for all 27 entries, also for the first one after a
 /// restart (own).
 pub fn same_entry()
     ghost at: { Log × Log × CoreId × ObjId × Entry }
@@ -62,7 +62,7 @@ pub fn same_entry()
     ensures { does at.0 at.2 at.3 at.4 ≡ does at.1 at.2 at.3 at.4 }
 {}
 
-/// Alike logs remain alike after the entry (own).
+/// Law: alike logs remain alike after the same entry (own).
 pub fn alike_entry()
     ghost at: { Log × Log × CoreId × ObjId × Entry }
     requires alike { Alike at.0 at.1 }
@@ -72,8 +72,8 @@ pub fn alike_entry()
     ensures { Alike (after_entry at.0 at.2 at.3 at.4) (after_entry at.1 at.2 at.3 at.4) }
 {}
 
-/// A core (at.2) picks the same thread, or none (at.4), in two alike logs, whatever threads are
-/// passed over (at.3; own).
+/// Law: a core (at.2) picks the same thread, or none (at.4), in two alike logs, whichever threads
+/// are passed over (at.3; own).
 pub fn same_pick()
     ghost at: { Log × Log × CoreId × List Bool × Option ObjId }
     requires alike { Alike at.0 at.1 }
@@ -81,14 +81,14 @@ pub fn same_pick()
     ensures { IsPick at.1 at.2 at.3 at.4 }
 {}
 
-/// A thread (at.2) has the same status in two alike logs (own).
+/// Law: a thread (at.2) has the same status in two alike logs (own).
 pub fn same_status()
     ghost at: { Log × Log × ObjId }
     requires { Alike at.0 at.1 }
     ensures { status_of at.0 at.2 ≡ status_of at.1 at.2 }
 {}
 
-/// A line (at.2) that may follow one of two legal books (at.0, at.1) whose logs are alike may
+/// Law: a line (at.2) that may follow one of two legal books (at.0, at.1) with alike logs may
 /// follow the other (own).
 pub fn same_line()
     ghost at: { Book × Book × Line }
@@ -98,7 +98,7 @@ pub fn same_line()
     ensures { IsLegal (with_one at.2 at.1) }
 {}
 
-/// Alike books remain alike after the line (own).
+/// Law: alike books remain alike after the same line (own).
 pub fn alike_line()
     ghost at: { Book × Book × Line }
     requires left { IsLegal (with_one at.2 at.0) }
@@ -107,8 +107,7 @@ pub fn alike_line()
     ensures { Alike (log_of (with_one at.2 at.0)) (log_of (with_one at.2 at.1)) }
 {}
 
-/// Likeness goes on: a log that is alike to a second, which is alike to a third, is alike to the
-/// third (own).
+/// Law: likeness is transitive (own).
 pub fn alike_on()
     ghost at: { Log × Log × Log }
     requires first { Alike at.0 at.1 }
@@ -116,16 +115,16 @@ pub fn alike_on()
     ensures { Alike at.0 at.2 }
 {}
 
-/// Alike logs (at.0, at.1) are alike but for numbers (own).
+/// Law: alike logs (at.0, at.1) are also alike up to message numbers (own).
 pub fn alike_weaker()
     ghost at: { Log × Log }
     requires { Alike at.0 at.1 }
     ensures { AlikeButNumbers at.0 at.1 }
 {}
 
-/// Two sound logs (at.0, at.1) are alike but for numbers where each question that a kernel is asked
-/// of what was made has the same answer of both, but for the numbers of messages; how many messages
-/// were sent is not asked (own).
+/// Law: two sound logs (at.0, at.1) are alike up to message numbers if each question of a kernel
+/// about existing objects has the same answer in both, up to the numbers of messages; how many
+/// messages were sent is not asked (own).
 pub fn answers_but_numbers()
     ghost at: { Log × Log }
     requires left { Sound at.0 }
@@ -134,8 +133,8 @@ pub fn answers_but_numbers()
     ensures { AlikeButNumbers at.0 at.1 }
 {}
 
-/// Two logs that are alike but for numbers (at.2, at.3) are so after records that match after them
-/// (at.0, at.1), where what these leave is sound (own).
+/// Law: two logs that are alike up to message numbers (at.2, at.3) remain so after matching records
+/// (at.0, at.1), if the results are sound (own).
 pub fn onto_but_numbers()
     ghost at: { List Rec × List Rec × Log × Log }
     requires alike { AlikeButNumbers at.2 at.3 }
@@ -145,9 +144,9 @@ pub fn onto_but_numbers()
     ensures { AlikeButNumbers (onto at.0 at.2) (onto at.1 at.3) }
 {}
 
-/// An entry (at.4) of a thread that is there (at.3), on a core (at.2), has the same answer in two
-/// logs that are alike but for numbers (at.0, at.1), and the same records but for the numbers of
-/// messages (own).
+/// Law: an entry (at.4) of an existing thread (at.3) on a core (at.2) has the same answer, and the
+/// same records up to message numbers, in two logs that are alike up to message numbers (at.0,
+/// at.1; own).
 pub fn entry_but_numbers()
     ghost at: { Log × Log × CoreId × ObjId × Entry }
     requires alike { AlikeButNumbers at.0 at.1 }
@@ -157,7 +156,7 @@ pub fn entry_but_numbers()
     ensures { SameButNumbers (does at.0 at.2 at.3 at.4) (does at.1 at.2 at.3 at.4) }
 {}
 
-/// It leaves logs that are alike but for numbers (own).
+/// Law: logs that are alike up to message numbers remain so after the same entry (own).
 pub fn after_but_numbers()
     ghost at: { Log × Log × CoreId × ObjId × Entry }
     requires alike { AlikeButNumbers at.0 at.1 }
@@ -167,8 +166,8 @@ pub fn after_but_numbers()
     ensures { AlikeButNumbers (after_entry at.0 at.2 at.3 at.4) (after_entry at.1 at.2 at.3 at.4) }
 {}
 
-/// A core (at.2) picks the same thread, or none (at.4), in two logs that are alike but for numbers,
-/// whatever threads are passed over (at.3; own).
+/// Law: a core (at.2) picks the same thread, or none (at.4), in two logs that are alike up to
+/// message numbers, whichever threads are passed over (at.3; own).
 pub fn pick_but_numbers()
     ghost at: { Log × Log × CoreId × List Bool × Option ObjId }
     requires alike { AlikeButNumbers at.0 at.1 }
@@ -176,15 +175,15 @@ pub fn pick_but_numbers()
     ensures { IsPick at.1 at.2 at.3 at.4 }
 {}
 
-/// A thread (at.2) has the same status in two logs that are alike but for numbers (own).
+/// Law: a thread (at.2) has the same status in two logs that are alike up to message numbers (own).
 pub fn status_but_numbers()
     ghost at: { Log × Log × ObjId }
     requires { AlikeButNumbers at.0 at.1 }
     ensures { status_of at.0 at.2 ≡ status_of at.1 at.2 }
 {}
 
-/// Where a line (at.2) may follow one of two legal books (at.0, at.1) whose logs are alike but for
-/// numbers, the line of its step may follow the other (own).
+/// Law: if a line (at.2) may follow one of two legal books (at.0, at.1) whose logs are alike up to
+/// message numbers, the line of the same step may follow the other (own).
 pub fn line_but_numbers()
     ghost at: { Book × Book × Line }
     requires left { IsLegal (with_one at.2 at.0) }
@@ -193,7 +192,7 @@ pub fn line_but_numbers()
     ensures { IsLegal (with_one (line_in at.1 at.2.step) at.1) }
 {}
 
-/// It has the same answer, and the same records but for the numbers of messages (own).
+/// Law: that line has the same answer, and the same records up to message numbers (own).
 pub fn same_line_but_numbers()
     ghost at: { Book × Book × Line }
     requires left { IsLegal (with_one at.2 at.0) }
@@ -202,7 +201,7 @@ pub fn same_line_but_numbers()
     ensures { SameButNumbers (outcome_of at.2) (outcome_of (line_in at.1 at.2.step)) }
 {}
 
-/// It leaves logs that are alike but for numbers (own).
+/// Law: that line leaves logs that are alike up to message numbers (own).
 pub fn line_after_but_numbers()
     ghost at: { Book × Book × Line }
     requires left { IsLegal (with_one at.2 at.0) }
@@ -212,7 +211,7 @@ pub fn line_after_but_numbers()
         (log_of (with_one (line_in at.1 at.2.step) at.1)) }
 {}
 
-/// Likeness but for numbers goes on: from a first log to a second, and from that to a third (own).
+/// Law: likeness up to message numbers is transitive (own).
 pub fn on_but_numbers()
     ghost at: { Log × Log × Log }
     requires first { AlikeButNumbers at.0 at.1 }
@@ -220,8 +219,8 @@ pub fn on_but_numbers()
     ensures { AlikeButNumbers at.0 at.2 }
 {}
 
-/// Two logs that are alike but for numbers (at.0, at.1) are alike where numbers too are the same:
-/// those of the open messages, and that of the next (own).
+/// Law: two logs that are alike up to message numbers (at.0, at.1) are alike if the numbers of the
+/// open messages and of the next message are also the same (own).
 pub fn numbers_alike()
     ghost at: { Log × Log }
     requires but_numbers { AlikeButNumbers at.0 at.1 }
@@ -230,8 +229,8 @@ pub fn numbers_alike()
     ensures { Alike at.0 at.1 }
 {}
 
-/// Steps respect both likenesses: that which tells numbers apart, and that which does not (at;
-/// own).
+/// Law: steps respect both likenesses: the one that distinguishes message numbers, and the one that
+/// does not (at; own).
 pub fn steps_respect()
     ghost at: { Bool }
     ensures { IsLogLikeness (AlikeBy at) }

@@ -14,7 +14,7 @@ use mcs_types::{CoreId, Kind, ObjId};
 use std::alloc::Global;
 use std::marker::Model;
 
-/// The rows that were met, and what all keys of a search have in common. Clauses see the rows in
+/// The rows interned so far, and what all keys of a search have in common. Clauses see the rows in
 /// the order of their numbers, and whether keys are exact.
 #[derive(Drop)]
 pub struct Keys {
@@ -37,7 +37,7 @@ impl Model for Keys {
 /// How many numbers a row has room for before it grows.
 const ROOM: usize = 128;
 
-/// The object of a kind in a place.
+/// Returns the id of the object of a kind at this index.
 fn object_at(kind: Kind, place: u32) -> ObjId {
     ObjId {
         kind,
@@ -45,10 +45,10 @@ fn object_at(kind: Kind, place: u32) -> ObjId {
     }
 }
 
-/// The kinds of objects of which there is more than what threads, queues and slots have of them.
+/// The kinds of objects with state of their own, beyond what threads, queues and slots say of them.
 const KINDS: [Kind; 3] = [Kind::Notification, Kind::Reply, Kind::Context];
 
-/// Adds the canonical rows of all threads, each put together in the memory of one row.
+/// Adds the canonical rows of all threads; one buffer serves all of them.
 fn put_threads<L: Lines>(
     met: &mut Met,
     row: &mut Row,
@@ -68,16 +68,15 @@ fn put_threads<L: Lines>(
         };
         row.clear();
         put_thread(row, walk.kernel(), names, thread, position)?;
-        met.put(numbers, row)?;
+        met.put(numbers, row.clone()?)?;
     }
     Ok(())
 }
 
 impl Keys {
-    /// No row. Where keys are exact, states are one only where they differ in nothing that a book
-    /// records later, or, where the numbers of messages are not told apart, in nothing but these;
-    /// else they are left out too, and objects that are made after the boot are named by the lowest
-    /// slot that names them.
+    /// Returns an interner without rows. If keys are exact, equal keys mean states with the same
+    /// future; message numbers are left out if `numbered` is false. Otherwise objects made after
+    /// the boot are named by the lowest slot that names them.
     pub fn new(alloc: Global, boot: &Boot, users: &Users, is_exact: bool, numbered: bool) -> Keys
         ensures { result ≡ record { met = []; is_exact = is_exact; numbered = numbered } }
     {
@@ -91,14 +90,14 @@ impl Keys {
         }
     }
 
-    /// How many rows were met.
+    /// Returns how many rows were interned.
     pub fn rows(&self) -> usize
         ensures { result ≡ length self.now.met }
     {
         self.met.len()
     }
 
-    /// Puts the objects of one kind, and those that were made later.
+    /// Appends the rows of the objects of one kind, including those made later.
     fn put_kind<L: Lines>(
         &self,
         row: &mut Row,
@@ -117,7 +116,7 @@ impl Keys {
         Ok(())
     }
 
-    /// Puts all objects but threads and CNodes.
+    /// Appends all objects but threads and CNodes.
     fn put_objects<L: Lines>(
         &self,
         row: &mut Row,
@@ -134,7 +133,7 @@ impl Keys {
         Ok(())
     }
 
-    /// Puts all slots.
+    /// Appends all slots.
     fn put_all_slots<L: Lines>(
         &self,
         row: &mut Row,
@@ -148,7 +147,7 @@ impl Keys {
         Ok(())
     }
 
-    /// Adds the number of the row of all slots, where they may change.
+    /// Adds the number of the row of all slots, if slots may change.
     fn name_slots<L: Lines>(
         &mut self,
         row: &mut Row,
@@ -164,11 +163,11 @@ impl Keys {
             return Ok(());
         }
         self.put_all_slots(row, kernel, names)?;
-        self.met.put(numbers, row)?;
+        self.met.put(numbers, row.clone()?)?;
         Ok(())
     }
 
-    /// Puts what each core may enter besides its picks.
+    /// Appends the stale picks of each core.
     fn put_all_stale<L: Lines>(
         &self,
         row: &mut Row,
@@ -183,7 +182,7 @@ impl Keys {
         Ok(())
     }
 
-    /// Returns the numbers of the canonical rows of a state, in which the cores have these picks.
+    /// Returns the numbers of the canonical rows of a state, given the picks of its cores.
     fn canonical_numbers<L: Lines>(
         &mut self,
         users: &Users,
@@ -209,14 +208,14 @@ impl Keys {
             &names,
         )?;
         self.put_objects(&mut row, kernel, &names)?;
-        self.met.put(&mut numbers, &row)?;
+        self.met.put(&mut numbers, row.clone()?)?;
         self.name_slots(&mut row, &mut numbers, kernel, &names)?;
         self.put_all_stale(&mut row, walk, picks)?;
-        self.met.put(&mut numbers, &row)?;
+        self.met.put(&mut numbers, row.clone()?)?;
         Ok(numbers)
     }
 
-    /// Returns the numbers of the rows of a state, in which the cores have these picks.
+    /// Returns the numbers of the rows of a state, given the picks of its cores.
     fn numbers<L: Lines>(
         &mut self,
         users: &Users,
@@ -244,8 +243,8 @@ impl Keys {
         self.canonical_numbers(users, walk, picks)
     }
 
-    /// Returns the key of a state, in which the cores have these picks. Where keys are exact, it
-    /// names the state's rows among those that were met. OutOfMemory where memory was refused.
+    /// Returns the key of a state, given the picks of its cores. If keys are exact, it names the
+    /// state's rows among those interned. `OutOfMemory` if an allocation fails.
     pub fn key<L: Lines>(
         &mut self,
         users: &Users,

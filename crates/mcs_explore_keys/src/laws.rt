@@ -1,4 +1,4 @@
-//! What keys decide (own). Each law is one of definitions, and its function does nothing.
+//! What keys decide (own). Each law is about definitions, and its function does nothing.
 ghost use Rattle.std.specs.Prelude.{ℕ, Bool, List};
 ghost use Rattle.mcs_book.specs.Boots.{Boot, IsFaultless};
 ghost use Rattle.mcs_turns.specs.Turns.{User, Going, AreInRange};
@@ -6,8 +6,8 @@ ghost use Rattle.mcs_explore_equivalence.specs.Runs.{IsReached, AreAlike};
 ghost use Rattle.mcs_explore_rows.specs.Naming.{Keeps};
 ghost use Rattle.mcs_explore_rows.specs.Rows.{HaveSameRows, IsKey};
 
-/// Two runs (at.3, at.4) of users (at.1) after a boot without fault (at.2) are alike where they
-/// have equal rows, in which the numbers of messages are told apart or not (at.0).
+/// Law: two runs (at.3, at.4) of users (at.1) after a boot without fault (at.2) are alike if their
+/// rows are equal; rows may contain message numbers (at.0).
 pub fn rows_decide()
     ghost at: { Bool × List User × Boot × Going × Going }
     requires boot { IsFaultless at.2 }
@@ -18,7 +18,7 @@ pub fn rows_decide()
     ensures { AreAlike at.0 at.1 at.2 at.3 at.4 }
 {}
 
-/// They are alike where they have one key (at.6) among the same rows (at.5).
+/// Law: two runs are alike if they have one key (at.6) among the same rows (at.5).
 pub fn key_decides()
     ghost at: { Bool × List User × Boot × Going × Going × List (List ℕ) × List ℕ }
     requires boot { IsFaultless at.2 }
@@ -30,8 +30,8 @@ pub fn key_decides()
     ensures { AreAlike at.0 at.1 at.2 at.3 at.4 }
 {}
 
-/// A key (at.5) of a state (at.4) of users (at.3) stays one as more rows are met (at.1 before, at.2
-/// after).
+/// Law: a key (at.5) of a state (at.4) of users (at.3) remains its key as more rows are interned
+/// (at.1 before, at.2 after).
 pub fn key_stays()
     ghost at: { Bool × List (List ℕ) × List (List ℕ) × List User × Going × List ℕ }
     requires kept { Keeps at.1 at.2 }

@@ -1,6 +1,5 @@
-//! The keys of states: two states with one key have the same future (own). Exact keys are proved
-//! to: states with one key are alike. Canonical keys find more states to be one, and that they may
-//! is tested.
+//! The keys of states: two states with one key have the same future (own). For exact keys this is
+//! proved: such states are alike. Canonical keys merge more states, and are only tested.
 //!
 //! ```text
 //! a state ── mcs_explore_rows ──> all its answers, in rows ── its exact key

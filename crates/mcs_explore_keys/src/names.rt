@@ -16,7 +16,7 @@ pub struct Counts {
 }
 
 impl Counts {
-    /// Those of a boot.
+    /// Returns the counts of a boot.
     pub fn new(boot: &Boot) -> Counts {
         Counts {
             cnodes: boot.made(Kind::CNode),
@@ -28,7 +28,7 @@ impl Counts {
         }
     }
 
-    /// That of a kind.
+    /// Returns the count of a kind.
     pub fn of(&self, kind: Kind) -> u32 {
         match kind {
             Kind::CNode => self.cnodes,
@@ -41,20 +41,19 @@ impl Counts {
     }
 }
 
-/// The objects that were made after the boot and are there, in the order of the lowest slots that
-/// name them. Each is in a slot as long as it is there.
+/// The existing objects that were made after the boot, in the order of the lowest slots that name
+/// them. Each is in a slot as long as it exists.
 #[derive(Drop)]
 pub struct Names {
     counts: Counts,
     later: Vec<ObjId>,
 }
 
-/// A name that no object of the boot has, and no object that is in a slot: 2^32 and more.
+/// The least name of an object that is neither of the boot nor in a slot: 2^32.
 const APART: u64 = 1 << 32;
 
 impl Names {
-    /// Names the objects of a kernel; only those of the boot where no entry of a user changes
-    /// slots.
+    /// Names the objects of a kernel; only those of the boot if no entry of a user changes slots.
     pub fn new<L: Lines>(
         alloc: Global,
         kernel: &Kernel<L>,
@@ -77,7 +76,7 @@ impl Names {
         Ok(names)
     }
 
-    /// Adds what the slots of a CNode name.
+    /// Adds the objects that the slots of a CNode name.
     fn add_slots<L: Lines>(&mut self, kernel: &Kernel<L>, cnode: ObjId) -> Result<(), AllocError> {
         for index in 0..=u8::MAX {
             if let Some(cap) = kernel.capability(cnode, index) {
@@ -87,7 +86,7 @@ impl Names {
         Ok(())
     }
 
-    /// Adds an object, if it was made after the boot and is not there yet.
+    /// Adds an object, if it was made after the boot and is not in the list yet.
     fn add(&mut self, object: ObjId) -> Result<(), AllocError> {
         if self.is_later(object) && self.place(object).is_none() {
             self.later.push(object)?;
@@ -95,12 +94,12 @@ impl Names {
         Ok(())
     }
 
-    /// Where an object is among those made after the boot.
+    /// Returns the index of an object among those made after the boot.
     fn place(&self, object: ObjId) -> Option<usize> {
         self.later.iter().position(|other| other.is_same(object))
     }
 
-    /// Whether an object was made after the boot.
+    /// Returns whether an object was made after the boot.
     pub fn is_later(&self, object: ObjId) -> bool {
         self.counts.of(object.kind) < object.serial
     }
@@ -110,8 +109,8 @@ impl Names {
         self.later.as_slice()
     }
 
-    /// The name of an object, from 1 on, which distinguishes it from all others of its kind. One
-    /// that is in no slot has its serial after all names.
+    /// Returns the name of an object, from 1 on, unique within its kind. An object in no slot is
+    /// named by its serial, above all other names.
     pub fn name(&self, object: ObjId) -> u64 {
         let serial = object.serial as u64;
         let count = self.counts.of(object.kind) as u64;

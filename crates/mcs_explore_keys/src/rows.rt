@@ -1,5 +1,5 @@
-//! What decides the future of a state, in canonical rows: the numbers of messages are left out, and
-//! objects that were made after the boot have names of their own. That it does is tested.
+//! Canonical rows, which decide the future of a state: message numbers are left out, and objects
+//! made after the boot have canonical names. That they decide it is tested.
 use crate::names::Names;
 use mcs_explore_rows::{Row, kind_number, send_number};
 use mcs_explore_walk::{Walk, has};
@@ -9,7 +9,7 @@ use mcs_turns::{Pick, Position};
 use mcs_types::{Cap, CoreId, Kind, Letter, ObjId, Prio, Queue, Status};
 use std::alloc::{AllocError, Global};
 
-/// A number, where there is one: one more than it, or 0.
+/// Returns one more than a number; 0 for None.
 fn more(number: Option<usize>) -> u64 {
     match number {
         Some(number) => (number as u64).saturating_add(1),
@@ -17,7 +17,7 @@ fn more(number: Option<usize>) -> u64 {
     }
 }
 
-/// Puts the position of a user.
+/// Appends the position of a user.
 fn put_place(row: &mut Row, place: Option<Position>) -> Result<(), AllocError> {
     match place {
         Some(place) => {
@@ -44,7 +44,7 @@ fn queue_parts(queue: Queue) -> (u64, ObjId) {
     }
 }
 
-/// What a thread does, and the object for which it waits.
+/// Returns a thread's status as a number, and the object on which it is blocked.
 fn status_parts(names: &Names, status: Option<Status>) -> (u64, u64) {
     match status {
         None => (0, 0),
@@ -60,7 +60,7 @@ fn status_parts(names: &Names, status: Option<Status>) -> (u64, u64) {
     }
 }
 
-/// Puts a message that nobody has received, without its number.
+/// Appends a message that no thread has received, without its number.
 fn put_letter(row: &mut Row, names: &Names, letter: Option<&Letter>) -> Result<(), AllocError> {
     let Some(letter) = letter else {
         return Ok(());
@@ -82,7 +82,7 @@ fn priority_number(priority: Option<Prio>) -> u64 {
     }
 }
 
-/// Puts what a thread does and has, and how far its user is.
+/// Appends the state of a thread, what it holds, and the position of its user.
 pub fn put_thread<L: Lines>(
     row: &mut Row,
     kernel: &Kernel<L>,
@@ -102,8 +102,8 @@ pub fn put_thread<L: Lines>(
     put_letter(row, names, kernel.open(thread))
 }
 
-/// Puts the queue of which a thread is the first of several, so that each such queue is put once.
-/// That a thread is alone in a queue follows from what it does.
+/// Appends the queue of which a thread is the head, if others are queued behind it, so that each
+/// such queue is written once. That a thread is alone in a queue follows from its status.
 pub fn put_queue<L: Lines>(
     row: &mut Row,
     kernel: &Kernel<L>,
@@ -132,7 +132,7 @@ pub fn put_queue<L: Lines>(
     Ok(())
 }
 
-/// Puts the pending word of a notification, where there is one.
+/// Appends the pending word of a notification, if there is one.
 fn put_word<L: Lines>(
     row: &mut Row,
     kernel: &Kernel<L>,
@@ -147,8 +147,8 @@ fn put_word<L: Lines>(
     Ok(())
 }
 
-/// Puts the thread that receives with a reply object. The caller that it owes follows from what
-/// that thread does.
+/// Appends the receiver that is queued with a reply object. The caller that it owes follows from
+/// that caller's status.
 fn put_reply<L: Lines>(
     row: &mut Row,
     kernel: &Kernel<L>,
@@ -163,7 +163,7 @@ fn put_reply<L: Lines>(
     Ok(())
 }
 
-/// Puts the home of a context and its chain.
+/// Appends the home of a context and its chain.
 fn put_standing<L: Lines>(
     row: &mut Row,
     kernel: &Kernel<L>,
@@ -187,8 +187,8 @@ fn put_standing<L: Lines>(
     Ok(())
 }
 
-/// Puts a context: where it is gone, or its home and its chain, where there are, and its core where
-/// it was made after the boot. The core of one that the boot made never changes.
+/// Appends a context: that it is gone, or its home and its chain, and its core if it was made after
+/// the boot. The core of a context of the boot never changes.
 fn put_context<L: Lines>(
     row: &mut Row,
     kernel: &Kernel<L>,
@@ -210,7 +210,7 @@ fn put_context<L: Lines>(
     put_standing(row, kernel, names, context)
 }
 
-/// Puts what there is of an object besides what threads and slots have of it.
+/// Appends the state of an object that threads and slots do not say.
 pub fn put_object<L: Lines>(
     row: &mut Row,
     kernel: &Kernel<L>,
@@ -225,7 +225,7 @@ pub fn put_object<L: Lines>(
     }
 }
 
-/// Puts a slot and its capability.
+/// Appends a slot and its capability.
 fn put_cap(row: &mut Row, names: &Names, index: u8, cap: &Cap) -> Result<(), AllocError> {
     row.push(index as u64)?;
     row.push(kind_number(cap.obj.kind))?;
@@ -237,7 +237,7 @@ fn put_cap(row: &mut Row, names: &Names, index: u8, cap: &Cap) -> Result<(), All
     Ok(())
 }
 
-/// Puts the slots of a CNode that hold something.
+/// Appends the filled slots of a CNode.
 pub fn put_slots<L: Lines>(
     row: &mut Row,
     kernel: &Kernel<L>,
@@ -253,7 +253,7 @@ pub fn put_slots<L: Lines>(
     Ok(())
 }
 
-/// Puts what a core may enter besides its picks.
+/// Appends the stale picks of a core.
 pub fn put_stale<L: Lines>(
     row: &mut Row,
     walk: &Walk<L>,

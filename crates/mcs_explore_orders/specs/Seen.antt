@@ -23,17 +23,17 @@ pub record IsByExactKeys (is_exact : Bool) (users : List User) (boot : Boot) : T
   pub faultless : IsFaultless boot
   pub in_range : AreInRange users
 
--- and it has expanded all that it found
+-- a search by exact keys has expanded all that it found
 pub record IsAllExpanded {K : Type 0} (is_exact : Bool) (users : List User) (boot : Boot) (done : ℕ) (found : Entries K Turn) : Type 0 where
   pub keys : IsByExactKeys is_exact users boot
   pub all : length found ≤ done
 
--- each state that was found is so
+-- each state that was found is reached by a run of the users
 abbrev pub AreFoundRuns : {K : Type 0} → List User → Boot → Entries K Turn → Type 0
 AreFoundRuns users boot found = (place : ℕ) → place < length found → (g : Going) × IsFoundRun users boot found place g
 
 -- a state was found that no later turn tells apart from the end of a run of n turns, by no more
--- turns; the numbers of messages are told apart or not
+-- turns; the numbers of messages are distinguished or not
 pub record IsSeen {K : Type 0} (numbered : Bool) (users : List User) (boot : Boot) (found : Entries K Turn) (n : ℕ) (g : Going) : Type 0 where
   pub place : ℕ
   pub within : place < length found
@@ -42,7 +42,7 @@ pub record IsSeen {K : Type 0} (numbered : Bool) (users : List User) (boot : Boo
   pub like : AreAlike numbered users boot g going
   pub near : depth_at found place ≤ n
 
--- so is each run
+-- each run has its last state among those found
 abbrev pub AreAllSeen : {K : Type 0} → Bool → List User → Boot → Entries K Turn → Type 0
 AreAllSeen numbered users boot found = (n : ℕ) (g : Going) → IsRun users boot n g → IsSeen numbered users boot found n g
 

@@ -39,7 +39,7 @@ with_state place g over shown = record shown { states = shown.states ++ (record 
 abbrev pub with_turn : ℕ → Turn → Answer → List Position → Going → Shown → Shown
 with_turn place t a from h shown = record shown { turns = shown.turns ++ (record { place = place; turn = t; answer = a; from = from; going = h }) ∷ [] }
 
--- it is the state to which the path of this place leads
+-- a shown state is the state to which the path of its place leads
 pub record IsStateAt (users : List User) (start : Going) (paths : List (List Turn)) (i : ℕ) (s : Sight) : Type 0 where
   pub place : s.place ≡ i
   pub path : List Turn
@@ -47,13 +47,13 @@ pub record IsStateAt (users : List User) (start : Going) (paths : List (List Tur
   pub leads : Path (Leads users) start path s.going
   pub over : (s.is_over ≡ true) ↔ IsOver users s.going
 
--- it is a turn of the rule from a state, and this is its answer
+-- a shown turn is a turn of the rule from a state, with its answer
 pub record IsTurnFrom (users : List User) (g : Going) (m : Made) : Type 0 where
   pub leads : Leads users m.turn g m.going
   pub from : m.from ≡ g.places
   pub answer : last_answer m.going.book ≡ Some m.answer
 
--- it is a turn from the state to which the path of its place leads
+-- a shown turn starts from the state to which the path of its place leads
 pub record IsTurnOf (users : List User) (start : Going) (paths : List (List Turn)) (m : Made) : Type 0 where
   pub path : List Turn
   pub at : slice_get paths m.place ≡ Some path
@@ -61,7 +61,7 @@ pub record IsTurnOf (users : List User) (start : Going) (paths : List (List Turn
   pub leads : Path (Leads users) start path state
   pub turn : IsTurnFrom users state m
 
--- it is among the turns from the state in a place
+-- a turn is among those shown from the state in a place
 pub record IsShown (turns : List Made) (i : ℕ) (t : Turn) (h : Going) : Type 0 where
   pub number : ℕ
   pub made : Made

@@ -1,4 +1,4 @@
-//! The turns of users after a boot as a system of points, each of which has a key.
+//! The runs of users after a boot, as a system of states with keys.
 ghost use Rattle.std.specs.Prelude.{◌≡◌, ◌++◌, ◌∷◌, [], IfOk, OnOk, IfSome, IfNone, List};
 ghost use Rattle.mcs_turns.specs.Turns.{User, Going, ArePicks, beginning};
 ghost use Rattle.mcs_explore_walk.specs.declared.walk.Turn.{Turn};
@@ -20,18 +20,17 @@ use mcs_types::{Answer, OutOfMemory};
 use std::alloc::Global;
 use std::marker::Model;
 
-/// What a search reports its findings to. A state is named by its place in the order in which it
-/// was found.
+/// What a search reports its findings to. A state is named by its index in the order of discovery.
 pub trait Watch: Drop {
-    // what it was shown of runs of these users
+    // what the watch was shown of runs of these users
     ghost HasSeen: { Self → List User → Shown → Type 0 };
 
-    // what it goes by, which nothing that it is shown changes
+    // what the watch looks for, which does not change
     ghost Aim: { Type 0 };
 
     ghost aim: { Self → Aim };
 
-    /// Sees the state in this place, and whether it is over: no turn is possible.
+    /// Sees the state at this index, and whether it is over, that is, no turn is possible.
     fn see_state(
         &mut self,
         users: &Users,
@@ -43,7 +42,7 @@ pub trait Watch: Drop {
         ensures sees { OnOk result (SeesState HasSeen self.old self.new
             users.now place walk.now is_over) };
 
-    /// Sees a turn from the state in this place: its answer, how far the users were before it, and
+    /// Sees a turn from the state at this index: its answer, the users' positions before it, and
     /// the state after it.
     fn see_turn(
         &mut self,
@@ -58,11 +57,12 @@ pub trait Watch: Drop {
         ensures sees { OnOk result (SeesTurn HasSeen self.old self.new
             users.now place turn answer.now from.now walk.now) };
 
-    /// Returns whether the search goes on after a state was expanded.
+    /// Returns whether the search continues after a state was expanded.
     fn goes_on(&self) -> bool;
 }
 
-/// The points of runs of users after a boot, their keys, and what they are reported to.
+/// The system that is searched: the runs of users after a boot, their keys, and the watch to which
+/// they are reported.
 pub struct Explorer<'a, W: Watch> {
     boot: &'a Boot,
     users: &'a Users,
@@ -73,7 +73,7 @@ pub struct Explorer<'a, W: Watch> {
     ends: usize,
 }
 
-// By hand, so that it is a function of its own: a derived drop would be proved anew wherever it is
+// Written by hand as a separate function: a derived drop would be proved again wherever it is
 // freed.
 impl<'a, W: Watch> Drop for Explorer<'a, W> {
     fn drop(self) {
@@ -114,7 +114,7 @@ impl<'a, W: Watch> Model for Explorer<'a, W> {
 }
 
 impl<'a, W: Watch> Explorer<'a, W> {
-    /// At the beginning of a run.
+    /// Returns an explorer at the beginning of a run.
     pub fn new(
         alloc: Global,
         boot: &'a Boot,
@@ -143,33 +143,33 @@ impl<'a, W: Watch> Explorer<'a, W> {
         })
     }
 
-    /// How many rows the keys have.
+    /// Returns how many rows the keys have.
     pub fn rows(&self) -> usize {
         self.keys.rows()
     }
 
-    /// How many turns were made, up to `usize::MAX`.
+    /// Returns how many turns were made, up to `usize::MAX`.
     pub fn turns(&self) -> usize
         ensures { result ≡ self.now.turns }
     {
         self.turns
     }
 
-    /// How many of the states that were expanded are over, up to `usize::MAX`.
+    /// Returns how many expanded states are over, up to `usize::MAX`.
     pub fn ends(&self) -> usize
         ensures { result ≡ self.now.ends }
     {
         self.ends
     }
 
-    /// What they were reported to.
+    /// Returns the watch.
     pub fn watch(&self) -> &W
         ensures { result.now ≡ self.now.watch }
     {
         &self.watch
     }
 
-    /// Reports the state in a place, where its cores have these picks and so these turns.
+    /// Reports the state at an index and, given the picks of its cores, its turns.
     fn report(
         &mut self,
         place: usize,
@@ -189,8 +189,9 @@ impl<'a, W: Watch> Explorer<'a, W> {
         self.watch.see_state(self.users, place, walk, is_over)
     }
 
-    /// Returns the key of the state after a turn from the state in a place, where its cores have
-    /// these picks; None where the rule has no such turn. The turn is made on the walk.
+    /// Makes a turn on the walk, and returns the key of the state after it, given the picks of the
+    /// cores before it; None if the rule does not allow the turn. The turn starts from the state at
+    /// an index.
     fn behind(
         &mut self,
         alloc: Global,
@@ -226,8 +227,8 @@ impl<'a, W: Watch> Explorer<'a, W> {
         Ok(Some(key))
     }
 
-    /// Notes the state after a turn from the state in a place, where the rule has it. The turn is
-    /// made on the walk.
+    /// Makes a turn on the walk, and adds it with the key of the state after it, if the rule allows
+    /// the turn.
     fn add_next(
         &mut self,
         alloc: Global,
@@ -267,14 +268,14 @@ impl<'a, W: Watch> Explorer<'a, W> {
         self.trail.copy_of(alloc, walk)
     }
 
-    /// Drops a walk, whose memory is reused.
+    /// Keeps a walk as a spare, so that its memory is reused.
     fn let_go(&mut self, walk: Box<Walk<PlainLines>>)
         ensures { self.new ≡ self.old }
     {
         self.trail.let_go(walk);
     }
 
-    /// Notes the state after a turn from the state in a place, made on a copy of the walk.
+    /// Makes a turn on a copy of the walk, and adds it with the key of the state after it.
     fn add_copy(
         &mut self,
         alloc: Global,
@@ -298,7 +299,8 @@ impl<'a, W: Watch> Explorer<'a, W> {
         self.add_next(alloc, place, turn, picks, copy, nexts)
     }
 
-    /// Notes the states after some turns from the state in a place, each on a copy of the walk.
+    /// Makes each of some turns on a copy of the walk, and adds it with the key of the state after
+    /// it.
     fn add_nexts(
         &mut self,
         alloc: Global,
@@ -324,8 +326,8 @@ impl<'a, W: Watch> Explorer<'a, W> {
         Ok(())
     }
 
-    /// Returns the states after some turns from the state in a place. The last turn is made on the
-    /// walk itself, which saves a copy.
+    /// Returns some turns from the state at an index, with the keys of the states after them. The
+    /// last turn is made on the walk itself, which saves a copy.
     fn nexts_by(
         &mut self,
         alloc: Global,

@@ -1,4 +1,4 @@
-//! Turns that are made again.
+//! Replays of turns.
 ghost use Rattle.std.specs.Prelude.{◌≡◌, OnOk};
 ghost use Rattle.mcs_book.specs.Boots.{Boot};
 ghost use Rattle.mcs_turns.specs.Turns.{Going};
@@ -12,7 +12,7 @@ use mcs_queues::Lines;
 use mcs_types::Answer;
 use std::alloc::Global;
 
-/// Makes a turn, if the rule has it, and returns its answer; else nothing has changed.
+/// Makes a turn if the rule allows it, and returns its answer; else None, and nothing changes.
 fn step<L: Lines>(
     alloc: Global,
     users: &Users,
@@ -26,17 +26,17 @@ fn step<L: Lines>(
     walk.turn(alloc, users, &picks, turn)
 }
 
-/// Makes turns, those that the rule has.
+/// Makes turns, skipping those that the rule does not allow.
 pub fn follow<L: Lines>(
     alloc: Global,
     users: &Users,
     walk: &mut Walk<L>,
     turns: &[Turn],
 ) -> Result<(), OrdersFault>
-    // what a run reached goes on as one
+    // a state that a run reached is still one that a run reached
     ensures reached { OnOk result ((boot : Boot)
         → IsReached users.now boot walk.old → IsReached users.now boot walk.new) }
-    // it is where these turns lead, if they lead somewhere
+    // the result is the state that these turns lead to, if they are possible
     ensures path { OnOk result ((g : Going)
         → Path (Leads users.now) walk.old turns.now g → walk.new ≡ g) }
 {

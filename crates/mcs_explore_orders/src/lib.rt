@@ -1,10 +1,10 @@
-//! All orders in which the entries of users can come: a search through the states of a kernel and
-//! its users, the nearest first, which expands one state of all that have the same future (own).
+//! All orders of the entries of users: a search through the states of a kernel and its users,
+//! nearest first, which expands one state of all that have the same future (own).
 //!
 //! ```text
-//! users ── walk ──> a kernel, how far each user is, and what each core may enter
-//!     ── trail ──> the walks along a path of turns; the last is copied for each turn from it
-//!     ── keys ──> the key of a state: what decides its future
+//! users ── walk ──> a kernel, the position of each user, and what each core may enter
+//!     ── trail ──> states cached along a path of turns; the last is copied for each turn from it
+//!     ── keys ──> the key of a state, which decides its future
 //!     ── explorer ──> the system that `mcs_explore_search` searches; it reports to a `Watch`
 //! ```
 #![tactic(auto)]

@@ -1,4 +1,4 @@
-//! Turns in few bytes.
+//! Packed turns.
 ghost use Rattle.std.specs.Prelude.{◌≡◌, IfOk, take};
 
 use mcs_explore_walk::Turn;
@@ -7,7 +7,7 @@ use mcs_types::{CoreId, OutOfMemory};
 use std::alloc::{AllocError, Global};
 use std::marker::Model;
 
-/// A turn in 8 bytes in place of 24, since each state that was found has one. Clauses see the turn.
+/// A turn in 8 bytes instead of 24, since each discovered state has one. Clauses see the turn.
 #[derive(Clone, Copy, Drop)]
 pub struct PackedTurn {
     number: u32,
@@ -45,8 +45,8 @@ impl Default for PackedTurn {
 }
 
 impl PackedTurn {
-    /// A turn in few bytes. OutOfMemory where its user's number has more than 16 bits, or its
-    /// entry's more than 32.
+    /// Packs a turn. `OutOfMemory` if the user's number has more than 16 bits, or the entry's more
+    /// than 32.
     pub fn of(turn: Turn) -> Result<PackedTurn, OutOfMemory>
         ensures { IfOk result (λ t. t ≡ turn) }
     {
@@ -63,7 +63,7 @@ impl PackedTurn {
         }
     }
 
-    /// The turn.
+    /// Unpacks the turn.
     pub fn turn(self) -> Turn
         ensures { result ≡ self }
     {
@@ -77,7 +77,7 @@ impl PackedTurn {
     }
 }
 
-/// The turns that these are.
+/// Unpacks turns.
 pub fn unpacked(alloc: Global, packed: &[PackedTurn]) -> Result<Vec<Turn>, AllocError>
     ensures { IfOk result (λ turns. turns.items ≡ packed.now) }
 {

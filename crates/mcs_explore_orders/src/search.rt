@@ -1,4 +1,4 @@
-//! The search, the nearest states first.
+//! The search, nearest states first.
 ghost use Rattle.std.specs.Prelude.{ℕ, true, ◌≡◌, ◌≤◌, ◌-◌, ◌⊎◌, ◌↔◌, IsTrue, IfOk, OnOk, length};
 ghost use Rattle.mcs_turns.specs.Turns.{Going, beginning};
 ghost use Rattle.mcs_explore_equivalence.specs.Runs.{IsReached};
@@ -20,14 +20,14 @@ use mcs_kernel::Boot;
 use mcs_queues::Lines;
 use std::alloc::Global;
 
-/// The states that were found, and what they were reported to.
+/// The result of a search: the states that were found, and the watch.
 pub struct Orders<'a, W: Watch> {
     alloc: Global,
     search: Search<Key, PackedTurn>,
     explorer: Explorer<'a, W>,
 }
 
-// By hand, so that it is a function of its own: a derived drop would be proved anew wherever it is
+// Written by hand as a separate function: a derived drop would be proved again wherever it is
 // freed.
 impl<'a, W: Watch> Drop for Orders<'a, W> {
     fn drop(self) {
@@ -39,8 +39,8 @@ impl<'a, W: Watch> Drop for Orders<'a, W> {
     }
 }
 
-/// Makes turns again, from the boot on, those that the rule has: what they reach is a run. BookFull
-/// where the book has 1,000,000 lines, OutOfMemory where memory was refused.
+/// Replays turns from the boot on, skipping those that the rule does not allow; so the result is a
+/// run. `BookFull` if the book has 1,000,000 lines, `OutOfMemory` if an allocation fails.
 pub fn retrace<L: Lines>(
     alloc: Global,
     boot: &Boot,
@@ -48,7 +48,7 @@ pub fn retrace<L: Lines>(
     turns: &[Turn],
 ) -> Result<Walk<L>, OrdersFault>
     ensures reached { IfOk result (λ walk. IsReached users.now boot.now walk) }
-    // it is where the path leads, if it leads somewhere
+    // the result is the state that the path leads to, if the path is possible
     ensures path { IfOk result (λ walk. (g : Going)
         → Path (Leads users.now) (beginning users.now boot.now) turns.now g → walk ≡ g) }
 {
@@ -58,75 +58,75 @@ pub fn retrace<L: Lines>(
 }
 
 impl<'a, W: Watch> Orders<'a, W> {
-    /// How many states were found.
+    /// Returns how many states were found.
     pub fn states(&self) -> usize
         ensures { result ≡ length self.now.search.map.entries }
     {
         self.search.states()
     }
 
-    /// How many of them were expanded.
+    /// Returns how many of the states were expanded.
     pub fn done(&self) -> usize
         ensures { result ≡ self.now.search.done }
     {
         self.search.done
     }
 
-    /// Whether all were expanded.
+    /// Returns whether all states were expanded.
     pub fn is_whole(&self) -> bool
         ensures { IsTrue result ↔ (length self.now.search.map.entries ≤ self.now.search.done) }
     {
         self.search.is_whole()
     }
 
-    /// Whether the watch stopped the search.
+    /// Returns whether the watch stopped the search.
     pub fn is_stopped(&self) -> bool
         ensures { result ≡ self.now.search.is_stopped }
     {
         self.search.is_stopped
     }
 
-    /// Returns the turns between them, by their places.
+    /// Returns the turns between states, by the indices of both.
     pub fn edges(&self) -> &[Edge]
         ensures { result.now ≡ self.now.search.edges.items }
     {
         &self.search.edges
     }
 
-    /// How many rows their keys have.
+    /// Returns how many rows the keys have.
     pub fn rows(&self) -> usize {
         self.explorer.rows()
     }
 
-    /// How many turns lead from states that were expanded, up to `usize::MAX`.
+    /// Returns how many turns lead from states that were expanded, up to `usize::MAX`.
     pub fn turns(&self) -> usize
         ensures { result ≡ self.now.explorer.turns }
     {
         self.explorer.turns()
     }
 
-    /// How many of the states that were expanded are over, up to `usize::MAX`.
+    /// Returns how many of the states that were expanded are over, up to `usize::MAX`.
     pub fn ends(&self) -> usize
         ensures { result ≡ self.now.explorer.ends }
     {
         self.explorer.ends()
     }
 
-    /// What they were reported to.
+    /// Returns the watch.
     pub fn watch(&self) -> &W
         ensures { result.now ≡ self.now.explorer.watch }
     {
         self.explorer.watch()
     }
 
-    /// By how many turns the state in a place was found.
+    /// Returns by how many turns the state at an index was found.
     pub fn depth(&self, place: usize) -> usize
         ensures { result ≡ depth_at self.now.search.map.entries place }
     {
         self.search.depth(place)
     }
 
-    /// By how many turns the last state was found, which no other takes more.
+    /// Returns by how many turns the last state was found; no other state took more.
     pub fn deepest(&self) -> usize
         ensures last { result ≡ depth_at self.now.search.map.entries
             (length self.now.search.map.entries - 1) }
@@ -136,8 +136,8 @@ impl<'a, W: Watch> Orders<'a, W> {
         self.depth(self.states().saturating_sub(1))
     }
 
-    /// Returns the last turn by which the state in a place was found; None where there is no such
-    /// place. That of the start, in place 0, says nothing.
+    /// Returns the last turn by which the state at an index was found; None if there is no such
+    /// index. For the start, at index 0, it means nothing.
     pub fn last_turn(&self, place: usize) -> Option<Turn>
         ensures { result ≡ label_at self.now.search.map.entries place }
     {
@@ -147,7 +147,7 @@ impl<'a, W: Watch> Orders<'a, W> {
         }
     }
 
-    /// The turns by which the state in a place was found, the first one first.
+    /// Returns the turns by which the state at an index was found, first to last.
     pub fn path(&self, place: usize) -> Result<Vec<Turn>, OrdersFault>
         ensures { IfOk result (λ turns. turns.items ≡ path_of self.now.search.map.entries place) }
     {
@@ -157,10 +157,10 @@ impl<'a, W: Watch> Orders<'a, W> {
     }
 }
 
-/// Expands one state after another, the earliest found first, until none is left, the budget ends,
-/// or the watch stops it. BookFull where a book has 1,000,000 lines; OutOfMemory where memory was
-/// refused, and where a user's number has more than 16 bits, or that of an entry, a row or a state
-/// that is expanded more than 32.
+/// Expands one state after another in the order of discovery, until none is left, the budget ends,
+/// or the watch stops it. `BookFull` if a book has 1,000,000 lines; `OutOfMemory` if an allocation
+/// fails, if a user's number has more than 16 bits, or if the number of an entry, a row or an
+/// expanded state has more than 32.
 pub fn explore<'a, W: Watch>(
     alloc: Global,
     boot: &'a Boot,
@@ -173,7 +173,7 @@ pub fn explore<'a, W: Watch>(
     // each state that was found is that of a run, by the turns of its path
     ensures runs { IfOk result (λ o. AreFoundRuns users.now boot.now o.search.map.entries) }
     ensures sorted { IfOk result (λ o. AreSorted o.search.map.entries) }
-    // it ends where all were expanded, by the budget, or as the watch stops it
+    // it ends when all were expanded, by the budget, or because the watch stops it
     ensures budget { IfOk result (λ o. (length o.search.map.entries ≤ o.search.done)
         ⊎ IsSpent budget.states budget.depth o.search.done o.search.map.entries
         ⊎ (o.search.is_stopped ≡ true)) }
@@ -182,26 +182,26 @@ pub fn explore<'a, W: Watch>(
         AreNear budget.depth o.search.done o.search.map.entries) }
     ensures few { IfOk result (λ o.
         AreFoundLast budget.states o.search.done o.search.map.entries) }
-    // where keys are exact and all states were expanded, each run ends in a state that no later
-    // turn tells apart from one that was found, by no more turns: but for the numbers of messages,
-    // where these are not told apart
+    // if keys are exact and all states were expanded, each run ends in a state that no later turn
+    // can tell from one that was found, by no more turns; up to message numbers, if these are not
+    // distinguished
     ensures whole { IfOk result (λ o. IsAllExpanded is_exact users.now boot.now
         o.search.done o.search.map.entries
         → AreAllSeen numbered users.now boot.now o.search.map.entries) }
-    // edges lie between states that were found, and where keys are exact they are the runs of the
-    // users, as far as states were expanded
+    // edges are between states that were found; if keys are exact they are the runs of the users,
+    // as far as states were expanded
     ensures within { IfOk result (λ o. AreWithin o.search.edges.items
         (length o.search.map.entries)) }
     ensures graph { IfOk result (λ o. IsByExactKeys is_exact users.now boot.now
         → IsGraphOfRuns numbered users.now boot.now o.search.map.entries o.search.done
         o.search.edges.items) }
-    // each state that was expanded was shown, and each turn from it, and no other, and these were
+    // the watch was shown each expanded state and each turn from it, and nothing else; these were
     // counted
     ensures shown { IfOk result (λ o. W.HasSeen watch users.now nothing
         → HasSeenAll (HasCounted W.HasSeen) (counting o.explorer)
         users.now (beginning users.now boot.now)
         (paths_below o.search.map.entries o.search.done)) }
-    // the watch goes by the same as before
+    // the watch still looks for the same
     ensures aim { IfOk result (λ o. W.aim o.explorer.watch ≡ W.aim watch) }
 {
     let mut explorer = Explorer::new(alloc, boot, users, is_exact, numbered, watch)?;

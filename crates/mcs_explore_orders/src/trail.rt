@@ -1,4 +1,5 @@
-//! The points along a path of turns, so that the next state is not made again from the boot.
+//! A cache of states along a path of turns, so that the next state need not be replayed from the
+//! boot.
 ghost use Rattle.std.specs.Prelude.{List, IfOk, ◌≡◌, ◌≤◌, ◌+◌, ◌∷◌, ◌++◌, [], true, OnOk, OnErr, length, take};
 ghost use Rattle.mcs_turns.specs.Turns.{User, Going};
 ghost use Rattle.mcs_explore_search.specs.Paths.{Path};
@@ -12,11 +13,11 @@ use mcs_types::OutOfMemory;
 use std::alloc::Global;
 use std::marker::Model;
 
-/// How many turns a stage has. A point is kept after each stage alone, since a few turns that are
-/// made again cost less than a copy.
+/// How many turns a stage has. A state is cached after each stage only, since repeating a few turns
+/// costs less than a copy.
 const STRIDE: usize = 4;
 
-/// Some turns, and the point after them.
+/// Some turns, and the state after them.
 #[derive(Drop)]
 pub struct Stage {
     turns: Vec<Turn>,
@@ -31,16 +32,16 @@ impl Model for Stage {
     ghost view = { λ s. record { turns = s.turns.items; going = s.walk.value } };
 }
 
-/// A point where a path begins, and the points along it. Walks that are no longer needed are spare:
-/// their memory is used again.
-// walks are boxed, since one has 864 bytes and is moved often
+/// The state where a path begins, and states cached along it. Walks that are no longer needed are
+/// kept as spares for their memory.
+// boxed, since a walk has 864 bytes and is moved often
 pub struct Trail {
     start: Walk<PlainLines>,
     stages: Vec<Stage>,
     spare: Vec<Box<Walk<PlainLines>>>,
 }
 
-// By hand, so that it is a function of its own: a derived drop would be proved anew wherever it is
+// Written by hand as a separate function: a derived drop would be proved again wherever it is
 // freed.
 impl Drop for Trail {
     fn drop(self) {
@@ -60,14 +61,14 @@ impl Model for Trail {
     ghost view = { λ t. record { start = t.start; points = t.stages.items } };
 }
 
-/// Whether both are one turn.
+/// Returns whether both are one turn.
 fn is_same(turn: Turn, other: Turn) -> bool
     ensures { result ≡ true → turn ≡ other }
 {
     turn.core.0 == other.core.0 && turn.pick.is_same(other.pick)
 }
 
-/// Whether a path goes on with these turns from a place.
+/// Returns whether a path continues with these turns from an index.
 fn goes_on(path: &[Turn], at: usize, turns: &[Turn]) -> bool
     requires { at ≤ length path.now }
     ensures few { result ≡ true → at + length turns.now ≤ length path.now }
@@ -85,7 +86,7 @@ fn goes_on(path: &[Turn], at: usize, turns: &[Turn]) -> bool
     true
 }
 
-/// How many turns two paths begin with together.
+/// Returns the length of the common prefix of two paths.
 fn shared(path: &[Turn], next: &[PackedTurn]) -> usize {
     let mut count: usize = 0;
     for (turn, other) in path.iter().zip(next.iter()) {
@@ -108,7 +109,7 @@ fn push(stages: &mut Vec<Stage>, stage: Stage) -> Result<(), OutOfMemory>
     }
 }
 
-/// A walk that is boxed.
+/// Returns the walk in a box.
 fn inside(walk: &Box<Walk<PlainLines>>) -> &Walk<PlainLines>
     ensures { result.now ≡ walk.now.value }
 {
@@ -135,7 +136,7 @@ fn copy_of(
 }
 
 impl Trail {
-    /// A path of no turn.
+    /// Returns a cache for an empty path.
     pub fn new(alloc: Global, start: Walk<PlainLines>) -> Trail
         ensures { result ≡ record { start = start; points = [] } }
     {
@@ -146,7 +147,7 @@ impl Trail {
         }
     }
 
-    /// The last point.
+    /// Returns the last cached state.
     pub fn last(&self) -> &Walk<PlainLines>
         ensures { result.now ≡ last_point self.now.start self.now.points }
     {
@@ -156,7 +157,7 @@ impl Trail {
         }
     }
 
-    /// How many stages lie along a path, from the start on, and how many turns these have.
+    /// Returns how many stages agree with a path, and how many turns they have.
     fn common(&self, path: &[Turn]) -> (usize, usize)
         ensures there { result.1 ≤ length path.now }
         ensures same { turns_of (take result.0 self.now.points) ≡ take result.1 path.now }
@@ -172,15 +173,15 @@ impl Trail {
         (self.stages.len(), at)
     }
 
-    /// Drops a walk, whose memory is reused.
+    /// Keeps a walk as a spare, so that its memory is reused.
     pub fn let_go(&mut self, walk: Box<Walk<PlainLines>>)
         ensures { self.new ≡ self.old }
     {
-        // where memory for one more is refused, it is freed
+        // freed if there is no memory for one more spare
         let _ = self.spare.push(walk);
     }
 
-    /// Keeps so many of the stages.
+    /// Keeps the first `count` stages.
     fn keep(&mut self, count: usize)
         ensures { self.new ≡ record self.old { points = take count self.old.points } }
     {
@@ -204,7 +205,7 @@ impl Trail {
         copy_of(alloc, walk, spare)
     }
 
-    /// Copies the last point.
+    /// Returns a copy of the last cached state.
     fn branch(&mut self, alloc: Global) -> Result<Box<Walk<PlainLines>>, OutOfMemory>
         ensures copy { IfOk result (λ walk. walk.value
             ≡ last_point self.old.start self.old.points) }
@@ -214,8 +215,7 @@ impl Trail {
         copy_of(alloc, self.last(), spare)
     }
 
-    /// Takes the last point itself, which is then no longer along the path. Returns a copy where
-    /// there is no stage.
+    /// Removes and returns the last cached state; returns a copy of the start if there is no stage.
     fn leave(&mut self, alloc: Global) -> Result<Box<Walk<PlainLines>>, OutOfMemory>
         ensures walk { IfOk result (λ walk. walk.value
             ≡ last_point self.old.start self.old.points) }
@@ -229,8 +229,8 @@ impl Trail {
         }
     }
 
-    /// Returns a walk at the last point: a copy, so that the point remains, where the next path
-    /// leads over it, else the point itself.
+    /// Returns a walk at the last cached state: a copy if `stays`, since the next path passes
+    /// there, else the cached one.
     fn depart(&mut self, alloc: Global, stays: bool) -> Result<Box<Walk<PlainLines>>, OutOfMemory>
         ensures walk { IfOk result (λ walk. walk.value
             ≡ last_point self.old.start self.old.points) }
@@ -245,7 +245,8 @@ impl Trail {
         }
     }
 
-    /// Goes some turns on, which the rule has. BookFull, OutOfMemory: then it is as it was.
+    /// Makes some turns, which the rule must allow, and caches the state after them. `BookFull` or
+    /// `OutOfMemory`: then nothing changed.
     fn step(&mut self, alloc: Global, users: &Users, turns: &[Turn]) -> Result<(), OrdersFault>
         requires { (h : Going)
             × Path (Leads users.now) (last_point self.old.start self.old.points) turns.now h }
@@ -259,9 +260,9 @@ impl Trail {
         Ok(())
     }
 
-    /// Goes along a path that leads somewhere, stage by stage: back to where it has the turns of
-    /// this one, and on from there, but no further than so many turns. How many turns of the path
-    /// it has then.
+    /// Moves the cache along a path to an existing state, stage by stage: back to the prefix that
+    /// both share, and on from there, by at most `most` turns. Returns how many turns of the path
+    /// it then has.
     fn go_along(
         &mut self,
         alloc: Global,
@@ -288,8 +289,8 @@ impl Trail {
         Ok(at)
     }
 
-    /// Returns the walk at the end of a path that leads somewhere. Caches states along the prefix
-    /// that the path shares with the next one, which is a hint.
+    /// Returns the walk at the end of a path to an existing state. Caches states along the prefix
+    /// that the path shares with the next one (a hint).
     pub fn walk_to(
         &mut self,
         alloc: Global,

@@ -1,11 +1,11 @@
--- Spans, and those after them, each behind `and`.
+-- Spans, and those after them, each after `and`.
 use Rattle.std.proofs.Common.{◌≡◌, ◌+◌, ◌<◌, ◌≤◌, ℕ, zero, suc, Bool, true, false, List, [], ◌∷◌, ◌++◌, length, Option, Some, None, refl, sym, ap, ◌∙◌, arith}
 use Rattle.mcs_explore_questions.specs.declared.asking.Span.{Span}
 use Rattle.mcs_explore_questions.specs.Reading.{◌>>=◌, has_words}
 use Rattle.mcs_explore_questions.specs.Questions.{AddsSpan, and_span, spans_from}
 use Rattle.mcs_explore_questions.specs.There.{Scene}
 
--- so many turns are left, and give what all of them give
+-- this many turns are left, and give what all of them give
 pub record SpansLeft (s : Scene) (spans : List Span) (words : List (List ℕ)) (all : Option (List Span)) : Type 0 where
   pub turns : ℕ
   pub enough : length words ≤ turns

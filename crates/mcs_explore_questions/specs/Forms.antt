@@ -88,7 +88,7 @@ abbrev pub is_message : List ℕ → Bool
 is_message [] = false
 is_message (b ∷ bs) = b == 109 && is_some (number_of bs)
 
--- the bytes behind a letter, if it is the first
+-- the bytes after a letter, if it is the first
 abbrev pub behind_letter : ℕ → List ℕ → List ℕ
 behind_letter letter [] = []
 behind_letter letter (b ∷ bs) = cond (b == letter) bs (b ∷ bs)
@@ -137,11 +137,11 @@ abbrev pub take_word : Scene → Sort → Fit → List (List ℕ) → Option Fit
 take_word s sort f [] = None
 take_word s sort f (word ∷ words) = taken s sort f word words
 
--- nothing is taken behind a word for the rest
+-- nothing is taken after a word for the rest
 abbrev pub take_sort : Scene → Sort → Fit → Option Fit
 take_sort s sort f = cond f.ended (Some f) (take_word s sort f f.left)
 
--- the words of a message: so many at most
+-- the words of a message: at most this many
 abbrev pub take_numbers : Scene → ℕ → Fit → List (List ℕ) → Option Fit
 take_numbers s room f [] = Some f
 take_numbers s room f (word ∷ words) =
@@ -294,7 +294,7 @@ plain_sort first name =
     else if bytes_eq name (codes "reason") then sort.Number 1 13
     else sort.Number 0 18446744073709551615
 
--- the sort of words that name an object of a kind, where there is one
+-- the sort of words that name an object of a kind, if there is one
 abbrev pub sort_by : Option Kind → List ℕ → List ℕ → Sort
 sort_by None first name = plain_sort first name
 sort_by (Some kind) first name = if may_be_none first name then sort.Maybe kind else sort.Object (Some kind)

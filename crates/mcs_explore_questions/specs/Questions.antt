@@ -77,7 +77,7 @@ pub record RangeWords : Type 0 where
 abbrev pub range_words : Ends → RangeWords
 range_words e = record { from = e.from.now; to = e.to.now; until = e.until }
 
--- a range whose second word begins behind the dots, or behind `=` there
+-- a range whose second word begins after the dots, or after `=` there
 abbrev pub range_to : List ℕ → List ℕ → RangeWords
 range_to from [] = record { from = from; to = []; until = until.Given }
 range_to from (b ∷ bs) =
@@ -110,7 +110,7 @@ bounds_by s u word = do
   to ← bound_by s u range.to
   Some (record { from = from; to = to; until = range.until })
 
--- the span from an entry to another, which is behind it
+-- the span from an entry to another, which is after it
 abbrev pub span_from : User → Range → Option Span
 span_from u b =
     cond (nat_lt (length u.entries) b.to) None
@@ -139,13 +139,13 @@ span_then s words = do
 unfoldable pub and_span : Scene → List (List ℕ) → Option (Span × List (List ℕ))
 and_span s words = behind (codes "and") words >>= span_then s
 
--- a span is added to others, which the words behind `and` name
+-- a span is added to others, which the words after `and` name
 pub record AddsSpan (s : Scene) (words left : List (List ℕ)) (old new : List Span) : Type 0 where
   pub span : Span
   pub reads : and_span s words ≡ Some (span, left)
   pub adds : new ≡ old ++ span ∷ []
 
--- spans, and those that the words add, each behind `and`; each takes a word at least, so there are
+-- spans, and those that the words add, each after `and`; each takes a word at least, so there are
 -- no more turns than words
 abbrev pub spans_from : ℕ → Scene → List Span → List (List ℕ) → Option (List Span)
 spans_from turns s spans [] = Some spans
@@ -185,7 +185,7 @@ abbrev pub entries_of : Scene → User → List ℕ → Option Entries → Optio
 entries_of s u word (Some es) = Some es
 entries_of s u word None = cond (has_dot word) (bounds_by s u word >>= entries_from u) (entries_by s u word)
 
--- the entries that the words name, or all where there is none
+-- the entries that the words name, or all if there is none
 unfoldable pub entries_then : Scene → User → List (List ℕ) → Option (Entries × List (List ℕ))
 entries_then s u [] = Some (record { first = 1; last = length u.entries }, [])
 entries_then s u (word ∷ words) = do
@@ -239,7 +239,7 @@ answer_then s words = do
 abbrev pub lines_of : List ℕ → Option Lines
 lines_of word = cond (bytes_eq word (codes "=")) (Some lines.Answers) (cond (bytes_eq word (codes "+")) (Some lines.Records) None)
 
--- a line of a pattern, behind its sign
+-- a line of a pattern, after its sign
 unfoldable pub never_of : Scene → List ℕ → List (List ℕ) → Lines → Option Said
 never_of s sign words kind = do
   pattern ← pattern_of s kind words
@@ -358,8 +358,8 @@ asks s words = do
   need (fits s.users said)
   Some said
 
--- how many bytes are before the blanks at the end of a text, where it is so many before these bytes
--- of it, of which the first has this place
+-- how many bytes are before the blanks at the end of a text, where it is this many before these
+-- bytes of it, of which the first has this place
 abbrev pub ink_len : ℕ → ℕ → List ℕ → ℕ
 ink_len kept place [] = kept
 ink_len kept place (b ∷ bs) = ink_len (cond (b == 32 || b == 9) kept (place + 1)) (place + 1) bs
@@ -368,7 +368,7 @@ ink_len kept place (b ∷ bs) = ink_len (cond (b == 32 || b == 9) kept (place + 
 abbrev pub trimmed : List ℕ → List ℕ
 trimmed text = take (ink_len 0 0 text) text
 
--- the text behind a blank
+-- the text after a blank
 abbrev pub behind_blank : List ℕ → Option (List ℕ)
 behind_blank [] = None
 behind_blank (b ∷ bs) = cond (b == 32) (Some bs) None

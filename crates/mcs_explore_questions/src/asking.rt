@@ -1,11 +1,11 @@
-//! What a script asks of all orders, and the rules that it sets.
+//! Questions about all orders, and the rules that a script sets.
 ghost use Rattle.std.specs.Prelude.{◌≡◌};
 ghost use Rattle.mcs_explore_questions.specs.Asking.{contain, excuses, is_live, is_of_waits, is_question};
 
 use mcs_turns::Schedule;
 use mcs_types::ObjId;
 
-/// The entry of a user, by its number from 1 on.
+/// The entry of a user, by its number, counted from 1.
 #[derive(Clone, Copy)]
 pub struct Event {
     pub thread: ObjId,
@@ -24,7 +24,8 @@ pub struct Entries {
 pub enum Until {
     /// The second entry is given.
     Given,
-    /// It is answered.
+    /// A span of a user's entries: it lasts from the answer to entry `from` (from the beginning, if
+    /// that is 0) until entry `to` is given or answered.
     Answered,
 }
 
@@ -43,8 +44,8 @@ pub struct Span {
 pub enum Rule {
     /// Cores pick threads by this schedule.
     By(Schedule),
-    /// No user gives an entry again that was answered, also where its thread was restarted before
-    /// it ran.
+    /// No user gives an entry again after its answer, even if its thread was restarted before it
+    /// ran.
     ToldOnce,
 }
 
@@ -56,32 +57,32 @@ pub enum Asked {
         thread: ObjId,
         entries: Entries,
     },
-    /// From each state this entry of a user can still be answered, or it was answered and does not
-    /// come again. Without a number: some entry of it can, or all were.
+    /// From each state some order answers this entry of a user, or it was answered and does not
+    /// come again. Without a number: some order answers some entry of it, or all were answered.
     Live {
         thread: ObjId,
         number: Option<usize>,
     },
-    /// All answers of an entry are of the pattern, and each run that ends has had one.
+    /// All answers of an entry match the pattern, and each run that ends has had one.
     Answer {
         event: Event,
         pattern: Vec<u8>,
     },
-    /// All answers of an entry are of the pattern, if it has some.
+    /// All answers of an entry match the pattern; it may have none.
     AnswerIf {
         event: Event,
         pattern: Vec<u8>,
     },
-    /// Some answer of an entry is of the pattern.
+    /// Some answer of an entry matches the pattern.
     Some {
         event: Event,
         pattern: Vec<u8>,
     },
-    /// No line of a trace is of the pattern.
+    /// No line of a trace matches the pattern.
     Never {
         pattern: Vec<u8>,
     },
-    /// Never are all these users in their spans at once.
+    /// These users are never all in their spans at once.
     Apart {
         spans: Vec<Span>,
     },
@@ -90,18 +91,18 @@ pub enum Asked {
         first: Event,
         second: Event,
     },
-    /// The list of a user goes on with this entry after its last.
+    /// The list of a user continues with this entry after its last.
     Again {
         event: Event,
     },
-    /// All users go by this rule.
+    /// All users follow this rule.
     Ruled {
         rule: Rule,
     },
 }
 
 impl Entries {
-    /// Returns whether an entry is one of these, by its number from 1 on.
+    /// Returns whether an entry is in this range, by its number, counted from 1.
     pub fn contain(self, number: usize) -> bool
         ensures { result ≡ contain self number }
     {
@@ -110,7 +111,7 @@ impl Entries {
 }
 
 impl Asked {
-    /// Returns whether it asks something that holds or does not.
+    /// Returns whether it is a question that holds or fails.
     pub fn is_question(&self) -> bool
         ensures { result ≡ is_question self.now }
     {
@@ -144,7 +145,8 @@ impl Asked {
         }
     }
 
-    /// Returns whether it lets a user wait for ever in an entry, by its number from 1 on.
+    /// Returns whether it lets a user wait for ever in an entry, by the entry's number, counted
+    /// from 1.
     pub fn excuses(&self, user: ObjId, number: usize) -> bool
         ensures { result ≡ excuses self.now user number }
     {

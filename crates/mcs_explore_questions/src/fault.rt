@@ -5,7 +5,7 @@ use std::alloc::{AllocError, AllocFailed};
 use std::{fmt, io};
 use thiserror::Error;
 
-/// Why a question is refused. The report names the word, and what there is.
+/// Why a question is refused. The text names the word and lists what is possible.
 #[derive(Debug, Drop, Error)]
 pub enum QuestionFault {
     #[error("a blank is missing behind #!, before {word}")]
@@ -146,7 +146,7 @@ impl<T: Drop> From<AllocFailed<T>> for QuestionFault {
 /// Why a script of users is not explored to the end.
 #[derive(Debug, Drop)]
 pub enum ExploreFault {
-    /// As other commands tell it.
+    /// A fault that other commands report, too.
     Lab(LabFault),
     /// A question of the script is refused; lines count from 1.
     Question { line: u64, why: QuestionFault },

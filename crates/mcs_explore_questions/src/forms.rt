@@ -1,5 +1,5 @@
-//! Whether a pattern can stand for the line of an answer or a record, by the forms of these lines.
-//! It is kept with ids in place of names.
+//! Checks whether a pattern can match a line of an answer or a record, by the forms of these lines,
+//! and replaces names by ids.
 ghost use Rattle.std.specs.Prelude.{ℕ, ◌≡◌, ◌++◌, ◌∷◌, List, false, true, Some, None, IfOk, IfErr, OnOk, bytes_eq, option_copied, option_map};
 ghost use Rattle.mcs_text.specs.Reading.{words_of};
 ghost use Rattle.mcs_text.specs.Spelling.{name_text};
@@ -20,14 +20,14 @@ use mcs_text::Words;
 use mcs_types::{Kind, LABEL_BITS, MESSAGE_WORDS, ObjId};
 use std::alloc::{AllocError, Global};
 
-/// Of which lines a pattern is.
+/// Which lines a pattern is about.
 #[derive(Clone, Copy)]
 pub enum Lines {
     Answers,
     Records,
 }
 
-/// What a word of a form says.
+/// What kind of word a form has at a position.
 #[derive(Clone, Copy)]
 enum Sort {
     /// An object of this kind, or of any.
@@ -52,14 +52,14 @@ enum Sort {
     Ending,
 }
 
-/// Whether a word is this one.
+/// Returns whether a word is this one.
 fn is(word: &[u8], text: &[u8]) -> bool
     ensures { result ≡ bytes_eq word.now text.now }
 {
     word == text
 }
 
-/// The kind of the objects that words of this name in a form name.
+/// Returns the kind of object for words with this name in a form.
 #[tactic(auto, unfolding(crate::specs::Forms::kind_named))]
 fn kind_named(name: &[u8]) -> Option<Kind>
     ensures { result ≡ kind_named name.now }
@@ -85,7 +85,7 @@ fn kind_named(name: &[u8]) -> Option<Kind>
     None
 }
 
-/// Whether a dash may stand for no object of this name, in a line of this first word.
+/// Returns whether a dash may mean no object of this name, in a line with this first word.
 #[tactic(auto, unfolding(crate::specs::Forms::may_be_none))]
 fn may_be_none(first: &[u8], name: &[u8]) -> bool
     ensures { result ≡ may_be_none first.now name.now }
@@ -102,7 +102,7 @@ fn may_be_none(first: &[u8], name: &[u8]) -> bool
     false
 }
 
-/// The sort of the words of this name that name no object of one kind.
+/// Returns the kind of word for this name in a form, if it names no object of one kind.
 #[tactic(auto, unfolding(crate::specs::Forms::plain_sort))]
 fn plain_sort(first: &[u8], name: &[u8]) -> Sort
     ensures { result ≡ plain_sort first.now name.now }
@@ -138,7 +138,8 @@ fn plain_sort(first: &[u8], name: &[u8]) -> Sort
     Sort::Number(0, u64::MAX)
 }
 
-/// The sort of the words of this name in the form of lines with this first word.
+/// Returns the kind of word for which a name stands in the form of the lines that begin with
+/// `first`.
 #[tactic(auto, unfolding(crate::specs::Forms::sort_of))]
 fn sort_of(first: &[u8], name: &[u8]) -> Sort
     ensures { result ≡ sort_of first.now name.now }
@@ -150,7 +151,7 @@ fn sort_of(first: &[u8], name: &[u8]) -> Sort
     }
 }
 
-/// What a word is to be that is not of a sort.
+/// Returns what a fault says is wanted for a kind of word.
 fn wanted_of(sort: Sort) -> &'static str {
     match sort {
         Sort::Object(kind) => wanted_kind(kind),
@@ -167,7 +168,7 @@ fn wanted_of(sort: Sort) -> &'static str {
     }
 }
 
-/// What a word is to be that names no object of a kind.
+/// Returns what a fault says is wanted for an object of a kind.
 fn wanted_kind(kind: Option<Kind>) -> &'static str {
     match kind {
         None => "an object",
@@ -180,14 +181,14 @@ fn wanted_kind(kind: Option<Kind>) -> &'static str {
     }
 }
 
-/// Whether a word stands for any.
+/// Returns whether a word is the wildcard for one word.
 fn is_any(word: &[u8]) -> bool
     ensures { result ≡ is_any word.now }
 {
     is(word, b"*")
 }
 
-/// The bytes behind a letter, if it is the first.
+/// Returns the bytes after a letter, if a word begins with it.
 fn behind_letter(letter: u8, word: &[u8]) -> &[u8]
     ensures { result.now ≡ behind_letter letter word.entry.now }
 {
@@ -197,7 +198,7 @@ fn behind_letter(letter: u8, word: &[u8]) -> &[u8]
     }
 }
 
-/// Whether a word writes rights: letters of `rwgp` in this order, or a dash.
+/// Returns whether a word writes rights: letters of `rwgp` in this order, or a dash.
 fn are_rights(word: &[u8]) -> bool
     ensures { result ≡ are_rights word.now }
 {
@@ -207,7 +208,7 @@ fn are_rights(word: &[u8]) -> bool
     is(word, b"-") || (!word.is_empty() && behind_letter(b'p', granted).is_empty())
 }
 
-/// Whether a number is one from the least to the most.
+/// Returns whether there is a number, and it is between two bounds.
 fn is_between(least: u64, most: u64, number: Option<u64>) -> bool
     ensures { result ≡ is_between least most number }
 {
@@ -217,7 +218,7 @@ fn is_between(least: u64, most: u64, number: Option<u64>) -> bool
     }
 }
 
-/// Whether a word is a message, as `m4`.
+/// Returns whether a word names a message, as `m4`.
 fn is_message(word: &[u8]) -> bool
     ensures { result ≡ is_message word.now }
 {
@@ -227,28 +228,28 @@ fn is_message(word: &[u8]) -> bool
     }
 }
 
-/// Whether a word says what a thread does.
+/// Returns whether a word says what a thread does.
 fn is_status(word: &[u8]) -> bool
     ensures { result ≡ is_status word.now }
 {
     is(word, b"running") || is(word, b"restart") || is(word, b"inactive")
 }
 
-/// Whether a word says how a message was sent.
+/// Returns whether a word says how a message was sent.
 fn is_mode(word: &[u8]) -> bool
     ensures { result ≡ is_mode word.now }
 {
     (is(word, b"send") || is(word, b"call")) || (is(word, b"mute") || is(word, b"give"))
 }
 
-/// Whether a word says why a reply object became void.
+/// Returns whether a word says why a reply object became void.
 fn is_ending(word: &[u8]) -> bool
     ensures { result ≡ is_ending word.now }
 {
     is(word, b"deleted") || is(word, b"cancelled")
 }
 
-/// The fault of a word that is not what is wanted.
+/// Returns the fault for a word that is not what is wanted.
 fn not(alloc: Global, word: &[u8], wanted: &'static str) -> Result<QuestionFault, AllocError>
     ensures { IfOk result (λ e. is_of_memory e ≡ false) }
 {
@@ -258,7 +259,7 @@ fn not(alloc: Global, word: &[u8], wanted: &'static str) -> Result<QuestionFault
     })
 }
 
-/// The fault of a word that is missing.
+/// Returns the fault for a missing word.
 fn short(alloc: Global, name: &[u8]) -> Result<QuestionFault, AllocError>
     ensures { IfOk result (λ e. is_of_memory e ≡ false) }
 {
@@ -267,7 +268,7 @@ fn short(alloc: Global, name: &[u8]) -> Result<QuestionFault, AllocError>
     })
 }
 
-/// The object of a kind that a word names, and that can be there.
+/// Returns the object of a kind that a word names, if it can exist.
 #[tactic(auto, unfolding(crate::specs::Forms::object_there))]
 fn object_there(
     alloc: Global,
@@ -288,7 +289,7 @@ fn object_there(
     Ok(object)
 }
 
-/// Whether an object is of a kind, where that matters.
+/// Returns whether an object is of a kind; true if no kind is given.
 fn is_of(kind: Option<Kind>, object: ObjId) -> bool
     ensures { result ≡ is_of kind object }
 {
@@ -306,7 +307,7 @@ fn id_bytes(alloc: Global, object: ObjId) -> Result<Vec<u8>, AllocError>
     Vec::from_slice(alloc, text.as_bytes())
 }
 
-/// The text that the name of an object becomes: its id.
+/// Returns the text for the name of an object: its id.
 #[tactic(auto, unfolding(crate::specs::Forms::object_text))]
 fn object_text(
     alloc: Global,
@@ -322,7 +323,7 @@ fn object_text(
     Ok(id_bytes(alloc, object)?)
 }
 
-/// The id of an object with an ending.
+/// Returns the id of an object with a suffix.
 fn with_end(alloc: Global, object: ObjId, end: &[u8]) -> Result<Vec<u8>, AllocError>
     ensures { IfOk result (λ v. v.items ≡ name_text object ++ end.now) }
 {
@@ -331,7 +332,7 @@ fn with_end(alloc: Global, object: ObjId, end: &[u8]) -> Result<Vec<u8>, AllocEr
     Ok(text)
 }
 
-/// The text that the name of a queue becomes: the id of its object, with its end.
+/// Returns the text for the name of a queue: the id of its object, and its suffix.
 #[tactic(auto, unfolding(crate::specs::Forms::queue_text))]
 fn queue_text(alloc: Global, there: There<'_>, word: &[u8]) -> Result<Vec<u8>, QuestionFault>
     ensures said { IfOk result (λ v. queue_text (scene_of there.entry) word.now ≡ Some v.items) }
@@ -349,7 +350,7 @@ fn queue_text(alloc: Global, there: There<'_>, word: &[u8]) -> Result<Vec<u8>, Q
     Ok(text)
 }
 
-/// A word, if it may stay as it is.
+/// Returns a word as it is, if it is allowed.
 fn kept(
     alloc: Global,
     is_so: bool,
@@ -365,7 +366,7 @@ fn kept(
     Err(not(alloc, word, wanted)?)
 }
 
-/// The text that a word of a sort becomes.
+/// Returns the text for a word of a kind.
 #[tactic(auto, unfolding(crate::specs::Forms::sort_text))]
 fn sort_text(
     alloc: Global,
@@ -397,8 +398,8 @@ fn sort_text(
     kept(alloc, is_so, word, wanted_of(sort))
 }
 
-/// A pattern that is read by a form: the last word that was taken, the text so far, and whether a
-/// word for the rest was taken.
+/// A pattern as far as it is read: the last word taken, the text so far, and whether the wildcard
+/// for the rest was taken.
 #[derive(Drop)]
 struct Pattern<'a> {
     last: &'a [u8],
@@ -407,7 +408,7 @@ struct Pattern<'a> {
 }
 
 impl<'a> Pattern<'a> {
-    /// Adds a word that was taken, and what it becomes.
+    /// Adds a word that was taken, with the text for it.
     fn put(&mut self, word: &'a [u8], text: &[u8]) -> Result<(), AllocError>
         ensures last { OnOk result (self.new.last.now ≡ word.entry.now) }
         ensures text { OnOk result (self.new.text.items ≡ self.old.text.items ++ 32 ∷ text.now) }
@@ -418,7 +419,7 @@ impl<'a> Pattern<'a> {
         self.text.extend_from_slice(text)
     }
 
-    /// Adds a word for the rest that was taken.
+    /// Adds the wildcard for the rest.
     fn put_rest(&mut self, word: &'a [u8]) -> Result<(), AllocError>
         ensures last { OnOk result (self.new.last.now ≡ word.entry.now) }
         ensures text { OnOk result
@@ -431,7 +432,7 @@ impl<'a> Pattern<'a> {
     }
 }
 
-/// Adds a word of a sort that was taken, or one that stands for any.
+/// Adds a word of a kind, or a wildcard, that was taken.
 fn taken<'a>(
     alloc: Global,
     there: There<'_>,
@@ -459,8 +460,8 @@ fn taken<'a>(
     Ok(())
 }
 
-/// Takes a word of a sort, or one that stands for any. Short where none is left. Nothing is
-/// taken behind a word for the rest.
+/// Takes a word of a kind, or a wildcard, into the pattern. `Short` if no word is left. After the
+/// wildcard for the rest it takes nothing.
 fn take<'a>(
     alloc: Global,
     there: There<'_>,
@@ -540,7 +541,8 @@ fn take_guarded<'a>(
     )
 }
 
-/// Takes what follows the object of a capability, by its kind.
+/// Takes the words after the object of a capability: by its kind rights and a badge, a guard, or
+/// none.
 #[tactic(auto, unfolding(crate::specs::Forms::take_rest_of))]
 fn take_rest_of<'a>(
     alloc: Global,
@@ -562,7 +564,7 @@ fn take_rest_of<'a>(
     }
 }
 
-/// Takes what follows a capability of which any object is: nothing, or two words more.
+/// Takes what follows a capability whose object is a wildcard: nothing, or two more words.
 #[tactic(auto, unfolding(crate::specs::Forms::take_any_rights))]
 fn take_any_rights<'a>(
     alloc: Global,
@@ -590,7 +592,7 @@ fn take_any_rights<'a>(
     )
 }
 
-/// Takes a capability that begins with the object of a word that was taken.
+/// Takes a capability from the word of its object on, which was taken.
 #[tactic(auto, unfolding(crate::specs::Forms::object_taken))]
 fn take_object<'a>(
     alloc: Global,
@@ -612,7 +614,7 @@ fn take_object<'a>(
     take_rest_of(alloc, there, object.kind, words, pattern)
 }
 
-/// Takes a capability that begins with a word that was taken.
+/// Takes a capability from its first word on, which was taken.
 #[tactic(auto, unfolding(crate::specs::Forms::held))]
 fn take_held<'a>(
     alloc: Global,
@@ -642,7 +644,7 @@ fn take_held<'a>(
     take_object(alloc, there, word, words, pattern)
 }
 
-/// Takes a capability: a dash, any, or an object with two words more where its kind has them.
+/// Takes a capability: a dash, a wildcard, or an object, with two more words if its kind has them.
 #[tactic(auto, unfolding(crate::specs::Forms::take_capability))]
 fn take_capability<'a>(
     alloc: Global,
@@ -700,21 +702,21 @@ fn end_of(word: &[u8]) -> &[u8]
     &word[word.len().saturating_sub(5)..]
 }
 
-/// Whether a word is a queue of receivers, by its end.
+/// Returns whether a word names a queue of receivers, by its suffix.
 fn is_of_receivers(word: &[u8]) -> bool
     ensures { result ≡ is_of_receivers word.now }
 {
     is(end_of(word), b".recv")
 }
 
-/// Whether a word is a queue of other threads, by its end.
+/// Returns whether a word names another kind of queue, by its suffix.
 fn is_of_others(word: &[u8]) -> bool
     ensures { result ≡ is_of_others word.now }
 {
     is(end_of(word), b".send") || is(end_of(word), b".wait")
 }
 
-/// Takes the reply object of a thread that joins a queue: only a receiver has one, or a dash.
+/// Takes the reply object of a thread that joins a queue, or a dash: only receivers have one.
 #[tactic(auto, unfolding(crate::specs::Forms::take_reply))]
 fn take_reply<'a>(
     alloc: Global,
@@ -741,7 +743,7 @@ fn take_reply<'a>(
     )
 }
 
-/// Takes the words of this name, in a line of this first word.
+/// Takes the words for one name of a form, in a line with this first word.
 #[tactic(auto, unfolding(crate::specs::Forms::take_field))]
 fn take_field<'a>(
     alloc: Global,
@@ -769,7 +771,7 @@ fn take_field<'a>(
     take(alloc, there, sort_of(first, name), name, words, pattern)
 }
 
-/// Takes the words of all names that are left, in a line of this first word.
+/// Takes the words for the remaining names of a form, in a line with this first word.
 fn take_fields<'a>(
     alloc: Global,
     there: There<'_>,
@@ -790,8 +792,8 @@ fn take_fields<'a>(
     Ok(())
 }
 
-/// Returns the text of a pattern that was read, of which nothing is left, or a word for the rest.
-/// TooMany where another word is left.
+/// Returns the text of a pattern after its last word, or after the wildcard for the rest. `TooMany`
+/// if another word is left.
 fn whole_of(
     alloc: Global,
     words: &mut Reader<'_>,
@@ -808,7 +810,7 @@ fn whole_of(
     }
 }
 
-/// A text with a word for the rest.
+/// Returns a text with the wildcard for the rest.
 fn with_rest(text: Vec<u8>, word: &[u8]) -> Result<Vec<u8>, AllocError>
     ensures { IfOk result (λ v. v.items ≡ text.items ++ 32 ∷ word.now) }
 {
@@ -818,7 +820,7 @@ fn with_rest(text: Vec<u8>, word: &[u8]) -> Result<Vec<u8>, AllocError>
     Ok(whole)
 }
 
-/// The fault of a word behind the last.
+/// Returns the fault for a word after the last one.
 fn too_many(alloc: Global, word: &[u8]) -> Result<QuestionFault, AllocError>
     ensures { IfOk result (λ e. is_of_memory e ≡ false) }
 {
@@ -827,7 +829,7 @@ fn too_many(alloc: Global, word: &[u8]) -> Result<QuestionFault, AllocError>
     })
 }
 
-/// The names of the words of an answer after its first.
+/// Returns the names in the form of an answer with this first word.
 #[tactic(auto, unfolding(crate::specs::Forms::answer_form))]
 fn answer_form(word: &[u8]) -> Option<&'static [u8]>
     ensures { option_copied result ≡ answer_form word.now }
@@ -847,7 +849,7 @@ fn answer_form(word: &[u8]) -> Option<&'static [u8]>
     None
 }
 
-/// The names of the words of a record of an object, a slot or a thread.
+/// Returns the names in the form of a record of an object, a slot or a thread.
 #[tactic(auto, unfolding(crate::specs::Forms::object_record))]
 fn object_record(word: &[u8]) -> Option<&'static [u8]>
     ensures { option_copied result ≡ object_record word.now }
@@ -870,7 +872,7 @@ fn object_record(word: &[u8]) -> Option<&'static [u8]>
     None
 }
 
-/// The names of the words of a record of a queue or a message.
+/// Returns the names in the form of a record of a queue or a message.
 #[tactic(auto, unfolding(crate::specs::Forms::message_record))]
 fn message_record(word: &[u8]) -> Option<&'static [u8]>
     ensures { option_copied result ≡ message_record word.now }
@@ -896,7 +898,7 @@ fn message_record(word: &[u8]) -> Option<&'static [u8]>
     None
 }
 
-/// The names of the words of a record of an answer, a context or a notification.
+/// Returns the names in the form of a record of a reply, a context or a notification.
 #[tactic(auto, unfolding(crate::specs::Forms::other_record))]
 fn other_record(word: &[u8]) -> Option<&'static [u8]>
     ensures { option_copied result ≡ other_record word.now }
@@ -925,7 +927,7 @@ fn other_record(word: &[u8]) -> Option<&'static [u8]>
     None
 }
 
-/// The names of the words of a record after its first.
+/// Returns the names in the form of a record with this first word.
 #[tactic(auto, unfolding(crate::specs::Forms::record_form))]
 fn record_form(word: &[u8]) -> Option<&'static [u8]>
     ensures { option_copied result ≡ record_form word.now }
@@ -939,7 +941,7 @@ fn record_form(word: &[u8]) -> Option<&'static [u8]>
     other_record(word)
 }
 
-/// The names of the words of a line after its first.
+/// Returns the names in the form of a line with this first word.
 #[tactic(auto, unfolding(crate::specs::Forms::form_of))]
 fn form_of(lines: Lines, word: &[u8]) -> Option<&'static [u8]>
     ensures { option_copied result ≡ form_of lines word.now }
@@ -950,7 +952,7 @@ fn form_of(lines: Lines, word: &[u8]) -> Option<&'static [u8]>
     }
 }
 
-/// The first words of lines.
+/// Returns the possible first words of lines.
 fn firsts_of(lines: Lines) -> &'static [u8]
     ensures { result.now ≡ firsts_of lines }
 {
@@ -962,7 +964,7 @@ fn firsts_of(lines: Lines) -> &'static [u8]
     }
 }
 
-/// What is read of a pattern before its second word.
+/// Returns a pattern before its second word.
 fn begun<'a>(alloc: Global, word: &'a [u8]) -> Result<Pattern<'a>, AllocError>
     ensures { IfOk result (λ p. (words : List (List ℕ))
         → fit_of p words ≡ begun word.entry.now words) }
@@ -974,7 +976,7 @@ fn begun<'a>(alloc: Global, word: &'a [u8]) -> Result<Pattern<'a>, AllocError>
     })
 }
 
-/// Takes all words by a form, of lines with this first word.
+/// Takes a word of the pattern for each name in a form, that of the lines that begin with `first`.
 fn take_form<'a>(
     alloc: Global,
     there: There<'_>,
@@ -995,8 +997,9 @@ fn take_form<'a>(
     take_fields(alloc, there, first, &mut Words::new(form), words, pattern)
 }
 
-/// The text of a pattern by the form of lines with this first word, in whose place a word for any
-/// may be.
+/// Returns the text of a pattern, with ids for names. `form` is that of the lines that begin with
+/// `first`; `word` is the first word of the pattern, which may be a wildcard, and `rest` the
+/// others.
 #[tactic(auto, unfolding(crate::specs::Forms::fitted_by))]
 fn fitted_by<'x>(
     alloc: Global,
@@ -1017,7 +1020,7 @@ fn fitted_by<'x>(
     whole_of(alloc, &mut words, pattern)
 }
 
-/// The fault of a first word with which no line of this kind begins.
+/// Returns the fault for a word with which no line of this kind begins.
 fn no_line(alloc: Global, lines: Lines, first: &[u8]) -> Result<QuestionFault, AllocError>
     ensures { IfOk result (λ e. is_of_memory e ≡ false) }
 {
@@ -1029,7 +1032,7 @@ fn no_line(alloc: Global, lines: Lines, first: &[u8]) -> Result<QuestionFault, A
     })
 }
 
-/// The first words of lines, as they are listed.
+/// Returns the possible first words of lines as a list for a fault.
 fn listed(alloc: Global, lines: Lines) -> Result<Listed, AllocError> {
     let mut told = Listed::new(alloc);
     let mut firsts = Words::new(firsts_of(lines));
@@ -1039,7 +1042,8 @@ fn listed(alloc: Global, lines: Lines) -> Result<Listed, AllocError> {
     Ok(told)
 }
 
-/// The text of a pattern that begins with a word, by the form of lines with this first word.
+/// Returns the text of a pattern by the form of the lines that begin with `first`. `word` is the
+/// first word of the pattern, which may be a wildcard, and `rest` the others.
 #[tactic(auto, unfolding(crate::specs::Forms::fitted))]
 fn fitted(
     alloc: Global,
@@ -1060,8 +1064,8 @@ fn fitted(
     }
 }
 
-/// The text of a pattern whose first word is any, by the first form that it fits; None where it
-/// fits this one not.
+/// Returns the text of a pattern that begins with a wildcard, by this form; None if it does not
+/// fit.
 fn fitted_if(
     alloc: Global,
     there: There<'_>,
@@ -1081,8 +1085,8 @@ fn fitted_if(
     }
 }
 
-/// The text of a pattern whose first word is any, by the first form that it fits. NoLine where it
-/// fits none.
+/// Returns the text of a pattern that begins with a wildcard, by the first form that fits. `NoLine`
+/// if none does.
 fn fitted_any(
     alloc: Global,
     there: There<'_>,
@@ -1108,7 +1112,7 @@ fn fitted_any(
     })
 }
 
-/// Fails with BehindRest where a word is left.
+/// Fails with `BehindRest` if a word is left.
 fn nothing_behind(alloc: Global, words: &mut Reader<'_>) -> Result<(), QuestionFault>
     ensures said { OnOk result (has_words words.old ≡ false) }
     ensures told { IfErr result (λ e. is_of_memory e ≡ false → has_words words.old ≡ true) }
@@ -1121,7 +1125,7 @@ fn nothing_behind(alloc: Global, words: &mut Reader<'_>) -> Result<(), QuestionF
     }
 }
 
-/// Fails with BehindRest where a word follows the one for the rest.
+/// Fails with `BehindRest` if a word follows the wildcard for the rest.
 fn rest_is_last(alloc: Global, words: &[&[u8]]) -> Result<(), QuestionFault>
     ensures said { OnOk result (is_rest_last (texts words.entry.now) ≡ true) }
     ensures told { IfErr result (λ e.
@@ -1136,7 +1140,7 @@ fn rest_is_last(alloc: Global, words: &[&[u8]]) -> Result<(), QuestionFault>
     Ok(())
 }
 
-/// The text of a pattern that begins with this word.
+/// Returns the text of a pattern that begins with this word.
 #[tactic(auto, unfolding(crate::specs::Forms::pattern_by))]
 fn pattern_by(
     alloc: Global,
@@ -1160,8 +1164,8 @@ fn pattern_by(
     fitted(alloc, there, lines, word, word, rest)
 }
 
-/// The pattern of these words for lines, without their sign, with ids in place of names. A fault
-/// where it can stand for no line.
+/// Returns the pattern of these words for lines, without their sign and with ids for names. Fails
+/// if no line can match it.
 #[tactic(auto, unfolding(crate::specs::Forms::pattern_of))]
 pub fn pattern_of(
     alloc: Global,

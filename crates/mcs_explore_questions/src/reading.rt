@@ -41,7 +41,7 @@ struct Ends<'a> {
     until: Until,
 }
 
-/// The fault of a word that is not what is wanted.
+/// Returns the fault for a word that is not what is wanted.
 fn not(alloc: Global, word: &[u8], wanted: &'static str) -> Result<QuestionFault, AllocError>
     ensures { IfOk result (λ e. is_of_memory e ≡ false) }
 {
@@ -51,7 +51,7 @@ fn not(alloc: Global, word: &[u8], wanted: &'static str) -> Result<QuestionFault
     })
 }
 
-/// The fault of a word that says no entry.
+/// Returns the fault for a word that means no entry.
 fn empty(alloc: Global, word: &[u8]) -> Result<QuestionFault, AllocError>
     ensures { IfOk result (λ e. is_of_memory e ≡ false) }
 {
@@ -88,8 +88,7 @@ fn event(alloc: Global, there: There<'_>, words: &mut Reader<'_>) -> Result<Even
     there.entry(alloc, list, word)
 }
 
-/// How many bytes are before the second of the first two dots that are together; all where there
-/// are none.
+/// Returns how many bytes are before the first `..` of a word; all if it has none.
 fn dots_len(word: &[u8]) -> usize
     ensures { result ≡ dots_len false word.now }
 {
@@ -103,7 +102,7 @@ fn dots_len(word: &[u8]) -> usize
     word.len()
 }
 
-/// The ends of a range, of which the second begins behind the dots, or behind `=` there.
+/// Returns the ends of a range; `=` may precede the second.
 fn range_to<'a>(from: &'a [u8], behind: &'a [u8]) -> Ends<'a>
     ensures { range_words result ≡ range_to from.entry.now behind.entry.now }
 {
@@ -121,7 +120,7 @@ fn range_to<'a>(from: &'a [u8], behind: &'a [u8]) -> Ends<'a>
     }
 }
 
-/// The words at the ends of a range: two dots stand between them, after which `=` may be.
+/// Returns the words at the ends of a range, with `..` or `..=` between them.
 fn range_of(word: &[u8]) -> Option<Ends<'_>>
     ensures { option_map range_words result ≡ range_of word.entry.now }
 {
@@ -142,8 +141,7 @@ fn small_number(word: &[u8]) -> Option<usize>
     Some(number_of(word)? as usize)
 }
 
-/// The number that a word of a range says: one of at most 9 digits, or that of an entry of a
-/// user, by its name.
+/// Returns the number at the end of a range: at most 9 digits, or an entry of a user by its name.
 fn bound(there: There<'_>, list: &UserList, word: &[u8]) -> Option<usize>
     ensures { result ≡ bound_by (scene_of there.entry) list.now word.now }
 {
@@ -168,8 +166,8 @@ fn range_in(there: There<'_>, list: &UserList, word: &[u8]) -> Option<Range>
     })
 }
 
-/// The span from an entry of a user to another, as a word writes it. NoEntry where the user has no
-/// such last entry, Empty where that is not behind the first.
+/// Returns the span of a user between two entries. `NoEntry` if the user has no such last entry,
+/// `Empty` if the last is not after the first.
 fn span_from(
     alloc: Global,
     list: &UserList,
@@ -193,7 +191,7 @@ fn span_from(
     })
 }
 
-/// The span of a user that a word says: a range, or the name of entries.
+/// Returns the span of a user that a word means: a range, or a name of entries.
 fn span_of(
     alloc: Global,
     there: There<'_>,
@@ -279,7 +277,7 @@ fn push_span(
     Ok(())
 }
 
-/// Reads the spans that all words name, each behind `and`, and adds them to others.
+/// Reads the spans of all remaining words, each after `and`, and adds them to others.
 fn push_spans(
     alloc: Global,
     there: There<'_>,
@@ -297,7 +295,7 @@ fn push_spans(
     Ok(())
 }
 
-/// Reads the users in spans that a first word and all others name.
+/// Reads spans: one after a first word, and the rest, each after `and`.
 #[tactic(auto, unfolding(crate::specs::Questions::apart_asked, crate::specs::Questions::spans_of, crate::specs::Questions::span_then, crate::specs::Questions::user_then))]
 fn apart(
     alloc: Global,
@@ -317,7 +315,7 @@ fn apart(
     Ok(Asked::Apart { spans })
 }
 
-/// One span.
+/// Returns a list of one span.
 fn one_span(alloc: Global, span: Span) -> Result<Vec<Span>, AllocError>
     ensures { IfOk result (λ spans. spans.items ≡ span ∷ []) }
 {
@@ -326,7 +324,7 @@ fn one_span(alloc: Global, span: Span) -> Result<Vec<Span>, AllocError>
     Ok(spans)
 }
 
-/// Of which lines a pattern is, by the word with which it begins.
+/// Returns which lines a pattern is about, by its first word.
 fn lines_of(word: &[u8]) -> Option<Lines>
     ensures { result ≡ lines_of word.now }
 {
@@ -339,7 +337,7 @@ fn lines_of(word: &[u8]) -> Option<Lines>
     None
 }
 
-/// A text behind a sign and a blank.
+/// Returns a text after a sign and a blank.
 fn signed(alloc: Global, sign: &[u8], text: Vec<u8>) -> Result<Vec<u8>, AllocError>
     ensures { IfOk result (λ v. v.items ≡ sign.now ++ 32 ∷ text.items) }
 {
@@ -349,7 +347,7 @@ fn signed(alloc: Global, sign: &[u8], text: Vec<u8>) -> Result<Vec<u8>, AllocErr
     Ok(whole)
 }
 
-/// Reads a line of a pattern, behind its sign.
+/// Reads a pattern for lines with this sign.
 #[tactic(auto, unfolding(crate::specs::Questions::never_of))]
 fn never_of(
     alloc: Global,
@@ -368,7 +366,7 @@ fn never_of(
     Ok(Asked::Never { pattern })
 }
 
-/// Reads what is never to be: a line of a pattern, or users in spans at once.
+/// Reads what must never be: a line that matches a pattern, or users in their spans at once.
 #[tactic(auto, unfolding(crate::specs::Questions::never_asked))]
 fn never(alloc: Global, there: There<'_>, words: &mut Reader<'_>) -> Result<Asked, QuestionFault>
     ensures said { IfOk result (λ a. never_asked (scene_of there.entry) words.old
@@ -382,7 +380,7 @@ fn never(alloc: Global, there: There<'_>, words: &mut Reader<'_>) -> Result<Aske
     }
 }
 
-/// Whether a byte of a word is a dot.
+/// Returns whether a byte of a word is a dot.
 fn has_dot(word: &[u8]) -> bool
     ensures { result ≡ has_dot word.now }
 {
@@ -404,8 +402,8 @@ fn last_of(range: Range) -> usize
     }
 }
 
-/// The entries of a user that are in a range, as a word writes it. NoEntry where the user has not
-/// all of them, Empty where there is none.
+/// Returns the entries of a user in a range. `NoEntry` if the user lacks one of them, `Empty` if
+/// there is none.
 fn entries_from(
     alloc: Global,
     list: &UserList,
@@ -452,7 +450,7 @@ fn entries_of(
     }
 }
 
-/// Reads the entries that the next word names, or all where none is left.
+/// Reads the entries that the next word names, or all if none is left.
 #[tactic(auto, unfolding(crate::specs::Questions::entries_then))]
 fn entries(
     alloc: Global,
@@ -508,8 +506,8 @@ fn number(
     Ok(Some(event.number))
 }
 
-/// Reads the user that is never to be stuck, and the entry that this is asked of, if the line
-/// names one.
+/// Reads the user that must never be stuck, and the entry that is asked about, if the line names
+/// one.
 #[tactic(auto, unfolding(crate::specs::Questions::live_asked))]
 fn live(alloc: Global, there: There<'_>, words: &mut Reader<'_>) -> Result<Asked, QuestionFault>
     ensures said { IfOk result (λ a. live_asked (scene_of there.entry) words.old
@@ -525,7 +523,7 @@ fn live(alloc: Global, there: There<'_>, words: &mut Reader<'_>) -> Result<Asked
     })
 }
 
-/// Whether the first word is the answer of an entry that waits.
+/// Returns whether the first word is the answer `waits`.
 fn begin_with_waits(words: &[&[u8]]) -> bool
     ensures { result ≡ begin_with_waits (texts words.entry.now) }
 {
@@ -535,8 +533,8 @@ fn begin_with_waits(words: &[&[u8]]) -> bool
     }
 }
 
-/// Reads words as the pattern of the answers of an entry. Waits where it is the answer of one that
-/// waits.
+/// Reads words as the pattern of the answers of an entry. `Waits` if it is `waits`, which is no
+/// final answer.
 #[tactic(auto, unfolding(crate::specs::Questions::answer_pattern))]
 fn answer(alloc: Global, there: There<'_>, words: &[&[u8]]) -> Result<Vec<u8>, QuestionFault>
     ensures said { IfOk result (λ p.
@@ -568,7 +566,7 @@ fn event_answer(
     Ok((event, pattern))
 }
 
-/// What a first word asks of the answers of an entry.
+/// Returns the question with this first word about the answers of an entry.
 fn answered_asked(first: &[u8], event: Event, pattern: Vec<u8>) -> Asked
     ensures { said_of result
         ≡ answered_asked first.now (record { event = event; pattern = pattern.items }) }
@@ -582,14 +580,14 @@ fn answered_asked(first: &[u8], event: Event, pattern: Vec<u8>) -> Asked
     Asked::Some { event, pattern }
 }
 
-/// Whether a first word asks something of the answers of an entry.
+/// Returns whether a first word asks something of the answers of an entry.
 fn is_of_answers(first: &[u8]) -> bool
     ensures { result ≡ is_of_answers first.now }
 {
     first == b"answer".as_slice() || first == b"answer?".as_slice() || first == b"some".as_slice()
 }
 
-/// Reads what a first word asks of the answers of an entry.
+/// Reads a question about the answers of an entry, by its first word.
 #[tactic(auto, unfolding(crate::specs::Questions::answers_asked))]
 fn of_answers(
     alloc: Global,
@@ -619,7 +617,7 @@ fn before(alloc: Global, there: There<'_>, words: &mut Reader<'_>) -> Result<Ask
     Ok(Asked::Before { first, second })
 }
 
-/// Reads the entry with which a list goes on after its last.
+/// Reads the entry with which a list continues after its last.
 #[tactic(auto, unfolding(crate::specs::Questions::again_asked))]
 fn again(alloc: Global, there: There<'_>, words: &mut Reader<'_>) -> Result<Asked, QuestionFault>
     ensures said { IfOk result (λ a. again_asked (scene_of there.entry) words.old
@@ -685,7 +683,7 @@ fn unknown(alloc: Global, word: &[u8]) -> Result<QuestionFault, AllocError>
     })
 }
 
-/// Whether a word is this one.
+/// Returns whether a word is this one.
 fn is(word: &[u8], text: &[u8]) -> bool
     ensures { result ≡ bytes_eq word.now text.now }
 {
@@ -732,7 +730,7 @@ fn asked(
     Err(unknown(alloc, first)?)
 }
 
-/// The text behind the blank with which it begins.
+/// Returns the text after the blank with which it begins.
 fn behind_blank(text: &[u8]) -> Option<&[u8]>
     ensures { option_copied result ≡ behind_blank text.entry.now }
 {
@@ -742,7 +740,7 @@ fn behind_blank(text: &[u8]) -> Option<&[u8]>
     }
 }
 
-/// Why a text behind `#!` is none behind a blank.
+/// Returns why the text after `#!` does not begin with a blank.
 fn no_blank(alloc: Global, text: &[u8]) -> Result<QuestionFault, AllocError>
     ensures { IfOk result (λ e. is_of_memory e ≡ false) }
 {
@@ -754,8 +752,8 @@ fn no_blank(alloc: Global, text: &[u8]) -> Result<QuestionFault, AllocError>
     })
 }
 
-/// The text of the question of a line `#!`, without its newline: what follows the blank, without
-/// blanks at its end. NoBlank where no blank is there, Nothing where no text does.
+/// Returns the question of a line `#!`, without its newline: what follows the blank, trimmed at its
+/// end. `NoBlank` without the blank, `Nothing` without a text.
 pub fn question_of(alloc: Global, line: &[u8]) -> Result<&[u8], QuestionFault>
     ensures said { IfOk result (λ text. question_of line.entry.now ≡ Some text.now) }
     ensures told { IfErr result (Refuses (question_of line.entry.now)) }
@@ -778,7 +776,7 @@ fn first_word(text: &[u8]) -> &[u8] {
     }
 }
 
-/// Reads what words ask of what is there.
+/// Reads a question about what the script has.
 #[tactic(auto, unfolding(crate::specs::Questions::asks))]
 fn asked_in(alloc: Global, there: There<'_>, words: &mut Reader<'_>) -> Result<Asked, QuestionFault>
     ensures said { IfOk result (λ a. asks (scene_of there.entry) words.old ≡ Some (said_of a)) }
@@ -790,7 +788,8 @@ fn asked_in(alloc: Global, there: There<'_>, words: &mut Reader<'_>) -> Result<A
     Ok(asked)
 }
 
-/// Reads the question of a text. A fault where it has no form of them, or names what is not there.
+/// Reads the question of a text. Fails if it has no form of a question, or names what does not
+/// exist.
 pub fn asked_of(alloc: Global, there: There<'_>, text: &[u8]) -> Result<Asked, QuestionFault>
     ensures said { IfOk result (λ a.
         asks (scene_of there.entry) (words_of text.now) ≡ Some (said_of a)) }
@@ -800,7 +799,7 @@ pub fn asked_of(alloc: Global, there: There<'_>, text: &[u8]) -> Result<Asked, Q
     asked_in(alloc, there, &mut Reader::new(words.as_slice()))
 }
 
-/// Whether the user of a thread has a program.
+/// Returns whether the user of a thread has a program.
 fn has_program(users: &Users, thread: ObjId) -> bool
     ensures { result ≡ user_is_program (user_of users.now thread) }
 {
@@ -810,7 +809,7 @@ fn has_program(users: &Users, thread: ObjId) -> bool
     }
 }
 
-/// Fails with OfProgram where an entry is one of a program.
+/// Fails with `OfProgram` if an entry is one of a program.
 fn is_of_list(
     alloc: Global,
     users: &Users,
@@ -830,7 +829,7 @@ fn is_of_list(
     })
 }
 
-/// Fails with AgainProgram where the user of a thread has a program, and goes on by that.
+/// Fails with `AgainProgram` if the user of a thread has a program, which decides what comes next.
 fn goes_on_again(alloc: Global, users: &Users, event: Event) -> Result<(), QuestionFault>
     ensures said { OnOk result (is_of_list users.now event ≡ true) }
     ensures told { IfErr result (λ e. is_of_memory e ≡ false → is_of_list users.now event ≡ false) }
@@ -843,7 +842,7 @@ fn goes_on_again(alloc: Global, users: &Users, event: Event) -> Result<(), Quest
     })
 }
 
-/// Fails with OfProgram where one of two entries is one of a program.
+/// Fails with `OfProgram` if one of two entries is one of a program.
 fn are_of_lists(
     alloc: Global,
     users: &Users,
@@ -858,8 +857,8 @@ fn are_of_lists(
     is_of_list(alloc, users, second, "never")
 }
 
-/// Fails where a question is about a program, of which a state does not say whether it came to an
-/// entry before: with AgainProgram where it lets that go on again, and else with OfProgram.
+/// Fails if a question about a program needs to know whether the program came to an entry before,
+/// which a state does not say: with AgainProgram for `again`, and else with OfProgram.
 fn fits_programs(alloc: Global, users: &Users, asked: &Asked) -> Result<(), QuestionFault>
     ensures said { OnOk result (fits users.now (said_of asked.now) ≡ true) }
     ensures told { IfErr result (λ e.
@@ -879,11 +878,11 @@ fn fits_programs(alloc: Global, users: &Users, asked: &Asked) -> Result<(), Ques
     }
 }
 
-/// The list of a thread that goes on again, and the number of the entry with which it does, from 0.
+/// Returns the repeating list of a thread, and the entry with which it repeats, counted from 0.
 fn again_of(users: &Users, thread: ObjId) -> Option<usize> {
     users.at(users.find(thread)?)?.again
 }
-/// Fails with AgainTwice where a question lets a list go on again that does already.
+/// Fails with `AgainTwice` if a question makes a list repeat that repeats already.
 pub fn goes_on_once(alloc: Global, users: &Users, asked: &Asked) -> Result<(), QuestionFault> {
     match asked {
         Asked::Again { event } if again_of(users, event.thread).is_some() => {
@@ -895,8 +894,8 @@ pub fn goes_on_once(alloc: Global, users: &Users, asked: &Asked) -> Result<(), Q
     }
 }
 
-/// Fails with ComesAgain where a question is about the first time that an entry is given or
-/// answered, and that comes again.
+/// Fails with `ComesAgain` if a question is about the first time that an entry is given or
+/// answered, and the entry repeats.
 pub fn comes_once(alloc: Global, users: &Users, asked: &Asked) -> Result<(), QuestionFault> {
     let (event, instead) = match asked {
         Asked::Before { first, .. } => (*first, "never"),

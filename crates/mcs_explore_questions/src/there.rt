@@ -15,8 +15,8 @@ use mcs_types::{BootLine, Kind, ObjId};
 use mcs_users::{UserList, Users};
 use std::alloc::{AllocError, Global};
 
-/// What there is in a script: its boot, its users, the names of objects, and those of the entries
-/// of programs.
+/// What a script has that questions can name: its boot, its users, the names of objects, and the
+/// names of entries of programs.
 #[derive(Clone, Copy)]
 pub struct There<'a> {
     pub boot: &'a [BootLine],
@@ -25,7 +25,7 @@ pub struct There<'a> {
     pub labels: &'a [Label],
 }
 
-/// Whether a line of the boot makes an object of a kind.
+/// Returns whether a line of the boot makes an object of a kind.
 fn makes(kind: Kind, line: &BootLine) -> bool
     ensures { result ≡ makes kind line.now }
 {
@@ -40,7 +40,7 @@ fn makes(kind: Kind, line: &BootLine) -> bool
     }
 }
 
-/// Whether objects of a kind can be made after the boot.
+/// Returns whether objects of a kind can be made after the boot.
 fn is_made_later(kind: Kind) -> bool
     ensures { result ≡ is_made_later kind }
 {
@@ -69,7 +69,7 @@ pub(crate) fn list_of(users: &Users, thread: ObjId) -> Option<&UserList>
     users.at(users.find(thread)?)
 }
 
-/// Whether a user has an entry that makes an object.
+/// Returns whether a user has an entry that makes an object.
 fn user_makes_object(list: &UserList) -> bool
     ensures { result ≡ user_makes_object list.now }
 {
@@ -77,7 +77,7 @@ fn user_makes_object(list: &UserList) -> bool
 }
 
 impl<'a> There<'a> {
-    /// What a word names: an object, by its id or by a name that the script gives it.
+    /// Returns what a word names: an object, by its id or by a name of the script.
     fn named(&self, word: &[u8]) -> Named
         ensures { result ≡ named_by (scene_of self.now) word.now }
     {
@@ -87,7 +87,7 @@ impl<'a> There<'a> {
         }
     }
 
-    /// The object that a word names. Several where two have the name.
+    /// Returns the object that a word names. `Several` if two have the name.
     pub fn object(&self, alloc: Global, word: &[u8]) -> Result<Option<ObjId>, QuestionFault>
         ensures said { IfOk result (λ o. object_by (scene_of self.now) word.now ≡ Some o) }
         ensures told { IfErr result (Refuses (object_by (scene_of self.now) word.now)) }
@@ -101,14 +101,14 @@ impl<'a> There<'a> {
         }
     }
 
-    /// How many objects of a kind the boot makes.
+    /// Returns how many objects of a kind the boot makes.
     fn count(&self, kind: Kind) -> usize
         ensures { result ≡ made (scene_of self.now) kind }
     {
         self.boot.iter().filter(|line| makes(kind, line)).count()
     }
 
-    /// Whether a user has an entry that makes an object.
+    /// Returns whether a user has an entry that makes an object.
     fn makes_objects(&self) -> bool
         ensures { result ≡ makes_objects self.now.users.now }
     {
@@ -118,7 +118,7 @@ impl<'a> There<'a> {
             .any(|list| user_makes_object(list))
     }
 
-    /// Whether an object can be there: the boot makes it, or a user can.
+    /// Returns whether an object can exist: the boot makes it, or a user may.
     fn can_be(&self, object: ObjId) -> bool
         ensures { result ≡ can_be (scene_of self.now) object }
     {
@@ -126,7 +126,7 @@ impl<'a> There<'a> {
             || (is_made_later(object.kind) && self.makes_objects())
     }
 
-    /// Fails with NoObject where the object that a word names can't be there.
+    /// Fails with `NoObject` if the object that a word names can never exist.
     pub fn expect(&self, alloc: Global, word: &[u8], object: ObjId) -> Result<(), QuestionFault>
         ensures said { OnOk result (can_be (scene_of self.now) object ≡ true) }
         ensures told { IfErr result (λ e.
@@ -141,7 +141,7 @@ impl<'a> There<'a> {
         })
     }
 
-    /// The objects of a kind that the boot makes.
+    /// Returns the objects of a kind that the boot makes, as a list for a fault.
     fn objects(&self, alloc: Global, kind: Kind) -> Result<Listed, AllocError> {
         let mut told = Listed::new(alloc);
         let mut serial: u32 = 0;
@@ -152,7 +152,7 @@ impl<'a> There<'a> {
         Ok(told)
     }
 
-    /// The thread of the boot that a word names. NoThread where it names none, Several where two
+    /// The thread of the boot that a word names. `NoThread` if it names none, `Several` if two
     /// objects have the name.
     pub fn thread(&self, alloc: Global, word: &[u8]) -> Result<ObjId, ProgramFault> {
         match self.named(word) {
@@ -167,12 +167,12 @@ impl<'a> There<'a> {
         }
     }
 
-    /// Whether an object is a thread of the boot.
+    /// Returns whether an object is a thread of the boot.
     fn is_thread(&self, object: ObjId) -> bool {
         object.kind.is_same(Kind::Thread) && self.can_be(object)
     }
 
-    /// The threads that have entries.
+    /// Returns the threads that have entries, as a list for a fault.
     fn threads(&self, alloc: Global) -> Result<Listed, AllocError> {
         let mut told = Listed::new(alloc);
         for list in self.users.lists() {
@@ -191,7 +191,7 @@ impl<'a> There<'a> {
         })
     }
 
-    /// The list of the user that a word names. NoUser where it names none.
+    /// The list of the user that a word names. `NoUser` if it names none.
     pub fn user(&self, alloc: Global, word: &[u8]) -> Result<&'a UserList, QuestionFault>
         ensures said { IfOk result (λ l. user_by (scene_of self.now) word.now ≡ Some l.now) }
         ensures told { IfErr result (Refuses (user_by (scene_of self.now) word.now)) }
@@ -219,21 +219,21 @@ fn entry_at(list: &UserList, number: u64) -> Option<Entries>
     })
 }
 
-/// The entry of a user that has this number, as a word writes it.
+/// Returns the entry of a user with the number that a word writes.
 fn numbered(list: &UserList, word: &[u8]) -> Option<Entries>
     ensures { result ≡ numbered list.now word.now }
 {
     entry_at(list, number_of(word)?)
 }
 
-/// Whether it is the name of entries of a thread.
+/// Returns whether a label is the name of entries of this thread.
 fn is_label(thread: ObjId, word: &[u8], label: &Label) -> bool
     ensures { result ≡ is_label thread word.now label.now }
 {
     label.thread.is_same(thread) && label.name.as_slice() == word
 }
 
-/// The first of these names of entries that a thread has, and that is this word.
+/// Returns the first label of a thread that is this word.
 fn label_of<'l>(labels: &'l [Label], thread: ObjId, word: &[u8]) -> Option<&'l Label>
     ensures { option_copied result ≡ find (is_label thread word.now) labels.now }
 {
@@ -241,7 +241,7 @@ fn label_of<'l>(labels: &'l [Label], thread: ObjId, word: &[u8]) -> Option<&'l L
 }
 
 impl<'a> There<'a> {
-    /// The entries of a user of which a word is the name.
+    /// Returns the entries of a user that a word names.
     pub fn labelled(&self, list: &UserList, word: &[u8]) -> Option<Entries>
         ensures { result ≡ labelled (scene_of self.now) list.now word.now }
     {
@@ -252,7 +252,7 @@ impl<'a> There<'a> {
         })
     }
 
-    /// The entries of a user that a word says, if it says some.
+    /// Returns the entries of a user that a word means, if any.
     fn entries_by(&self, list: &UserList, word: &[u8]) -> Option<Entries>
         ensures { result ≡ entries_by (scene_of self.now) list.now word.now }
     {
@@ -262,8 +262,8 @@ impl<'a> There<'a> {
         }
     }
 
-    /// The entries of a user that a word says: one by its number, or those that have the name.
-    /// NoEntry where it says none.
+    /// Returns the entries of a user that a word means: one by its number, or those with the name.
+    /// `NoEntry` if it means none.
     pub fn entries(
         &self,
         alloc: Global,
@@ -281,8 +281,8 @@ impl<'a> There<'a> {
         }
     }
 
-    /// The entry of a user that a word says. NoEntry where it says none, Block where it says
-    /// several.
+    /// Returns the entry of a user that a word means. `NoEntry` if it means none, `Block` if it
+    /// means several.
     pub fn entry(&self, alloc: Global, list: &UserList, word: &[u8]) -> Result<Event, QuestionFault>
         ensures said { IfOk result (λ e. entry_by (scene_of self.now) list.now word.now ≡ Some e) }
         ensures told { IfErr result (Refuses (entry_by (scene_of self.now) list.now word.now)) }
@@ -302,7 +302,7 @@ impl<'a> There<'a> {
     }
 }
 
-/// The fault of a word that is the number of no entry of a user.
+/// Returns the fault for a word that is no number of an entry of a user.
 pub fn no_entry(alloc: Global, list: &UserList, word: &[u8]) -> Result<QuestionFault, AllocError>
     ensures { IfOk result (λ e. is_of_memory e ≡ false) }
 {

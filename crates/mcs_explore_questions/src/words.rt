@@ -10,7 +10,7 @@ use mcs_text::Words;
 use std::alloc::{AllocError, Global};
 use std::marker::Model;
 
-/// The words of a question that are left.
+/// The remaining words of a question.
 #[derive(Drop)]
 pub(crate) struct Reader<'a> {
     words: &'a [&'a [u8]],
@@ -26,7 +26,7 @@ impl<'a> Model for Reader<'a> {
 }
 
 impl<'a> Reader<'a> {
-    /// All words.
+    /// Returns a reader of all words.
     pub(crate) fn new(words: &'a [&'a [u8]]) -> Reader<'a>
         ensures { result ≡ texts words.now }
     {
@@ -47,7 +47,7 @@ impl<'a> Reader<'a> {
         }
     }
 
-    /// Whether a word is left.
+    /// Returns whether a word is left.
     pub(crate) fn has_more(&self) -> bool
         ensures { result ≡ has_words self.now }
     {
@@ -61,7 +61,7 @@ impl<'a> Reader<'a> {
         self.words
     }
 
-    /// Takes a word. Missing where none is left.
+    /// Takes a word. `Missing` if none is left.
     pub(crate) fn need(&mut self, wanted: &'static str) -> Result<&'a [u8], QuestionFault>
         ensures word { IfOk result (λ w. word_then self.old ≡ Some (w.now, self.new)) }
         ensures told { IfErr result (Refuses (word_then self.old)) }
@@ -73,7 +73,7 @@ impl<'a> Reader<'a> {
         }
     }
 
-    /// Takes this word. Missing where none is left, Other for another.
+    /// Takes this word. `Missing` if none is left, Other for another.
     pub(crate) fn expect(
         &mut self,
         alloc: Global,
@@ -93,7 +93,7 @@ impl<'a> Reader<'a> {
         })
     }
 
-    /// Fails with TooMany where a word is left.
+    /// Fails with `TooMany` if a word is left.
     pub(crate) fn end(&mut self, alloc: Global) -> Result<(), QuestionFault>
         ensures ok { OnOk result (end_of self.old ≡ Some tt) }
         ensures told { IfErr result (Refuses (end_of self.old)) }
@@ -127,7 +127,7 @@ pub(crate) fn words_of<'a>(alloc: Global, text: &'a [u8]) -> Result<Vec<&'a [u8]
     Ok(all)
 }
 
-/// How many bytes are before the blanks at the end of a text.
+/// Returns how many bytes are before the blanks at the end of a text.
 fn ink_len(text: &[u8]) -> usize
     ensures is { result ≡ ink_len 0 0 text.now }
     ensures within { result ≤ length text.now }

@@ -87,7 +87,7 @@ stands [] (u ∷ us) vs m n h = refl
 stands (w ∷ ws) [] vs m n h = ap (λ b. is_rest w || ((bytes_eq w (codes "*") || b) && are_matched ws vs)) (h.0 m ∙ sym (h.0 n))
 stands (w ∷ ws) (u ∷ us) vs m n h = ap (λ b. is_rest w || (is_word w u && b)) (stands ws us vs m n h.1)
 
--- a line in which the name of a message stands behind a text
+-- a line in which the name of a message is after a text
 abbrev named : List ℕ → ℕ → List ℕ → List ℕ
 named before n behind = before ++ 32 ∷ 109 ∷ (decimal n ++ behind)
 

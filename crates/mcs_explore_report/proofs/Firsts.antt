@@ -85,8 +85,8 @@ module _ (users : List User) (states : List Sight) (old new : List Kind) (place 
       go i j k s at is_over stands there = end-old i j k k s at refl refl is_over stands there
   ends-first (inr noted) = end-noted noted.1
 
--- answers: what stands in a table after a turn stood there before it, or is new there and of the
--- place of the turn
+-- answers: what is in a table after a turn was there before it, or is new there and of the place of
+-- the turn
 
 abbrev IsOldOrNew : List Told → ℕ → Told → Type 0
 IsOldOrNew before place x = ((i : ℕ) × (slice_get before i ≡ Some x)) ⊎ ((x.place ≡ place) × (IsAmong before x.answer → ⊥))

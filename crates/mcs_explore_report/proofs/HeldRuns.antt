@@ -115,7 +115,7 @@ module _ (numbered : Bool) (users : List User) (boot : Boot) (whole : IsFaultles
       ap (λ (x : Answer). is_line pattern (answer_text x) || list_any (is_line pattern) (record_lines (next_message (log_of g.book)) (outcome g.book step).records)) same.answer
       ∙ ap (λ b. is_line pattern (answer_text (outcome h.book step).answer) || b) (lines-blind pattern none (outcome g.book step).records (outcome h.book step).records (next_message (log_of g.book)) (next_message (log_of h.book)) same.records)
 
--- where numbers are told apart, each pattern does
+-- where numbers are distinguished, each pattern does
 told-same : (users : List User) (boot : Boot) (whole : IsFaultless boot) (range : AreInRange users) (g h : Going) (a : AreAlike true users boot g h) (core : CoreId) (k : Pick) (t : Going) (turn : IsTurn users core k g t)
     → told_last (then_g true users boot whole range g h a core k t turn).book ≡ told_last (then_h true users boot whole range g h a core k t turn).book
 told-same users boot whole range g h a core k t turn =

@@ -1,4 +1,4 @@
--- What a whole search comes to in which all is as it is asked.
+-- The result of a whole search in which every question holds.
 use Rattle.std.specs.Prelude.{ℕ, zero, suc, ◌≡◌, ◌<◌, ◌-◌, Bool, true, false, not, is_none, is_some, unwrap_or, List, [], ◌∷◌, Option, Some, None, length, slice_get}
 use Rattle.std.specs.List.{list_all}
 use Rattle.std.proofs.Common.{refl, ap, sym, ◌∙◌, subst, inl, inr, arith}

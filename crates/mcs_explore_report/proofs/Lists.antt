@@ -47,7 +47,7 @@ set-other (e ∷ xs) zero (suc j) v ne = refl
 set-other (e ∷ xs) (suc i) zero v ne = refl
 set-other (e ∷ xs) (suc i) (suc j) v ne = set-other xs i j v (λ e. ne (ap (λ n. suc n) e))
 
--- what stands from a place on begins with what stands there
+-- the rest of a list from a place on begins with the item there
 pub from-on : {A : Type 0} (xs : List A) (n : ℕ) (x : A) → slice_get xs n ≡ Some x → drop n xs ≡ x ∷ drop (n + 1) xs
 from-on xs n x at = by-suc xs n x at ∙ ap (λ k. x ∷ drop k xs) (up n)
   where

@@ -24,7 +24,7 @@ use Rattle.mcs_explore_report.proofs.HeldRuns.{state-same, then_h, there, turn-s
 use Rattle.mcs_explore_report.proofs.KeptRuns.{answered-there, mailed-there, standings-same}
 use Rattle.mcs_explore_report.proofs.Lists.{within-at}
 
--- what stands in an earlier place was found by no more turns
+-- what is in an earlier place was found by no more turns
 depth-in : {K : Type 0} (found : Entries K Turn) (i : ℕ) (k : K) (f : Found Turn) → slice_get found i ≡ Some (k, f) → depth_at found i ≡ f.depth
 depth-in {K} found i k f at = ap (λ (o : Option (K × Found Turn)). elim o [ None ↦ 0 | Some e ↦ e.1.depth ]) at
 

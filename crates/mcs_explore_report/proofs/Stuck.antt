@@ -92,7 +92,7 @@ marks-on ps i p marks at = ap (λ (qs : List ℕ). with_marks qs marks) (sym (fr
 pub marks-done : (ps : List ℕ) (i : ℕ) (marks : List Bool) → length ps ≤ i → marks ≡ with_marks (drop i ps) marks
 marks-done ps i marks long = ap (λ (qs : List ℕ). with_marks qs marks) (sym (drop_all i ps long))
 
--- so many places have so many marks
+-- there are as many marks as places
 pub first-marks-long : (states : ℕ) (n : Noted) → length (first_marks states n) ≡ states
 first-marks-long states n =
     marks-long n.answered (take (min (length n.settled) states) n.settled ++ replicate (states - min (length n.settled) states) true)

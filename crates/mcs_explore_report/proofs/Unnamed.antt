@@ -104,7 +104,7 @@ mode-proved m numbered is = ap is_proved is
 pub mode-numbered : (m : Mode) (numbered : Bool) → m ≡ Proved numbered → are_numbered m ≡ numbered
 mode-numbered m numbered is = ap are_numbered is
 
--- where numbers of messages are not told apart, no question names one
+-- where numbers of messages are not distinguished, no question names one
 by-mode : (named merges : Bool) → mode_by named merges ≡ Proved false → named ≡ false
 by-mode true merges is = let same : true ≡ false = ap are_numbered is in absurd cc
 by-mode false merges is = refl

@@ -21,7 +21,7 @@ use Rattle.mcs_explore_script.specs.UserLists.{user_of}
 use Rattle.mcs_explore_report.specs.Answers.{IsEntry, IsMailed, comes_to, mailed_to, waiting}
 use Rattle.mcs_explore_report.proofs.Lists.{some-same}
 
--- what stands in a list where another was put
+-- what is in a list where another was put
 put-in : {A : Type 0} (k : ℕ) (x : A) (ys : List A) (i : ℕ) (y : A) → slice_get (put_at k x ys) i ≡ Some y → ((i ≡ k) × (y ≡ x)) ⊎ (slice_get ys i ≡ Some y)
 put-in k x [] i y at = absurd cc
 put-in zero x (z ∷ ys) zero y at = inl (refl, sym (some-same x y at))
@@ -33,7 +33,7 @@ put-in (suc k) x (z ∷ ys) (suc i) y at = go (put-in k x ys i y at)
     go (inl e) = inl (ap (λ n. suc n) e.0, e.1)
     go (inr h) = inr h
 
--- what waits behind where a program goes on waited before
+-- what waits after where a program continues waited before
 gone-waits : (o : Option Settled) (u : User) (p : Position) (m : ℕ) → (gone_on o u p).waited ≡ Some m → p.waited ≡ Some m
 gone-waits None u p m e = e
 gone-waits (Some x) u p m e = absurd cc
@@ -99,7 +99,7 @@ place-told-waits rs own users i p m e = go (i == own) (slice_get users i) e
     go false None e = e
     go false (Some u) e = told-all-waits rs u p m e
 
--- who stands in a place stood there before, and waited if it waits
+-- who is in a place was there before, and waited if it waits
 told-in : (rs : List Reached) (own i : ℕ) (users : List User) (ps : List Position) (j : ℕ) (p : Position) → slice_get (all_told rs own i users ps) j ≡ Some p → (q : Position) × ((slice_get ps j ≡ Some q) × ((m : ℕ) → p.waited ≡ Some m → q.waited ≡ Some m))
 told-in rs own i users [] j p at = absurd cc
 told-in rs own i users (q ∷ qs) zero p at = (q, (refl, λ m e. place-told-waits rs own users i q m (ap (λ (x : Position). x.waited) (some-same (place_told rs own users i q) p at) ∙ e)))

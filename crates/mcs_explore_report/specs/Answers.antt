@@ -40,7 +40,7 @@ pub record IsNew (t : Told) (old new : List Told) : Type 0 where
 abbrev pub IsNoted : Told → List Told → List Told → Type 0
 IsNoted t old new = (IsAmong old t.answer × (new ≡ old)) ⊎ IsNew t old new
 
--- what stands in a place is changed so, if something does, and nothing else is changed
+-- what is in a place is changed so, if something does, and nothing else is changed
 pub record IsChanged {A : Type 0} (Change : A → A → Type 0) (i : ℕ) (old new : List A) : Type 0 where
   pub before : A
   pub after : A
@@ -82,7 +82,8 @@ gave_send users user number = elim (slice_get users user) [
   | Some u ↦ is_send_at u number
 ]
 
--- whether an entry that waited comes to this: that a thread goes on says so of Send alone
+-- whether this is the result of an entry that waited: that a thread continues is a result of Send
+-- alone
 abbrev pub comes_to : List User → ℕ → ℕ → Answer → Bool
 comes_to users user number answer.Done = gave_send users user number
 comes_to users user number a = true
@@ -91,7 +92,7 @@ comes_to users user number a = true
 abbrev pub waiting : List Position → ℕ → Turn → Option ℕ
 waiting from user t = cond (user == t.pick.user) None (elim (slice_get from user) [ None ↦ None | Some p ↦ p.waited ])
 
--- the entry of a user that waited and comes to what reached its thread, if there is one
+-- the entry of a user that waited whose result is what reached its thread, if there is one
 abbrev pub mailed_to : List User → List Position → Turn → Reached → Option Pick
 mailed_to users from t r = elim (user_of users r.thread) [
   | None ↦ None
@@ -101,7 +102,7 @@ mailed_to users from t r = elim (user_of users r.thread) [
   ]
 ]
 
--- it is noted of this entry, if there is one
+-- what is told is noted for this entry, if there is one
 abbrev pub IsNotedFor : Option Pick → Told → Tables → Tables → Type 0
 IsNotedFor None t old new = new ≡ old
 IsNotedFor (Some e) t old new = IsNotedOf e.user e.number t old new
@@ -110,7 +111,7 @@ IsNotedFor (Some e) t old new = IsNotedOf e.user e.number t old new
 abbrev pub IsNotedMail : List User → List Position → ℕ → Turn → Reached → Tables → Tables → Type 0
 IsNotedMail users from place t r old new = IsNotedFor (mailed_to users from t r) (record { answer = r.answer; place = place; turn = t }) old new
 
--- so is all that did, one after the other
+-- everything that reached a thread by a turn is noted, one after another
 abbrev pub AreNotedMail : List User → List Position → ℕ → Turn → List Reached → Tables → Tables → Type 0
 AreNotedMail users from place t [] old new = new ≡ old
 AreNotedMail users from place t (r ∷ rs) old new = (mid : Tables) × (IsNotedMail users from place t r old mid × AreNotedMail users from place t rs mid new)

@@ -18,11 +18,11 @@ pub record IsKindAt (kinds : List Kind) (standing : List Standing) (i : ℕ) : T
   pub at : slice_get kinds i ≡ Some kind
   pub same : kind.standing ≡ standing
 
--- none of the first n kinds is so
+-- none of the first n kinds has this standing
 abbrev pub IsNoKind : List Kind → List Standing → ℕ → Type 0
 IsNoKind kinds standing n = (i : ℕ) (k : Kind) → i < n → slice_get kinds i ≡ Some k → k.standing ≡ standing → ⊥
 
--- so many ends more; counts end with the largest
+-- this many ends more; counts end with the largest
 abbrev pub with_more : Kind → ℕ → Kind
 with_more k n = record k { count = min (k.count + n) (2 ^ 64 - 1) }
 

@@ -78,7 +78,7 @@ pub record HasBadEnd (s : UserScript) : Type 0 where
 abbrev pub IsFailing : UserScript → Type 0
 IsFailing s = HasBadEnd s ⊎ (HasFailingQuestion s ⊎ HasStuckUser s)
 
--- a script fails, if its states are told apart by proved keys
+-- a script fails, if its states are distinguished by proved keys
 abbrev pub IsProvedToFail : Bool → UserScript → Type 0
 IsProvedToFail exact s = (numbered : Bool) → mode_of s.boot s.users s.asked.items exact ≡ Proved numbered → IsFailing s
 

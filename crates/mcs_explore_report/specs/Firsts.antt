@@ -21,7 +21,7 @@ pub record IsStateBefore (states : List Sight) (place j : ℕ) : Type 0 where
   pub there : sight.place ≡ place
   pub before : number ≤ j
 
--- so was a turn from the state in this place
+-- a turn from the state in this place is among the first j + 1 that were shown
 pub record IsTurnBefore (turns : List Made) (place j : ℕ) : Type 0 where
   pub number : ℕ
   pub made : Made

@@ -1,4 +1,4 @@
--- What is told of all states that were looked behind (own).
+-- What is reported about all states that were expanded (own).
 use Rattle.std.specs.Prelude.{ℕ, ◌≡◌, ◌<◌, ◌≤◌, ◌⊎◌, true, false, List, Option, Some, None, length, slice_get}
 use Rattle.mcs_types.specs.declared.entry.Answer.{Answer}
 use Rattle.mcs_types.specs.declared.entry.Answer.TheVariants as answer
@@ -31,8 +31,8 @@ pub record IsEndFound {K : Type 0} (users : List User) (boot : Boot) (found : En
   pub over : IsOver users going
   pub standing : standings users going ≡ k.standing
 
--- each kind of ends is that of a state that was looked behind, no two are the same, and each such
--- state that is over is of one of them
+-- each kind of ends is that of a state that was expanded, no two are the same, and each such state
+-- that is over is of one of them
 pub record AreEndsFound {K : Type 0} (users : List User) (boot : Boot) (found : Entries K Turn) (done : ℕ) (kinds : List Kind) : Type 0 where
   pub each : (i : ℕ) (k : Kind) → slice_get kinds i ≡ Some k → IsEndFound users boot found done k
   pub all : (place : ℕ) (g : Going) → place < done → IsAt users boot found place g → IsOver users g → HasKind kinds (standings users g)
@@ -54,15 +54,15 @@ pub record IsAnswerFound {K : Type 0} (users : List User) (boot : Boot) (found :
   pub turn : Leads users t.turn state going
   pub is : IsAnswered t.turn going user number t.answer ⊎ IsMailed users state.places going user number t.turn t.answer
 
--- each entry has answers, each of them is that of a turn from a state that was looked behind, and
--- what each such turn was answered but Waits is among those of its entry
+-- each entry has answers, each of them is that of a turn from a state that was expanded, and what
+-- each such turn was answered but Waits is among those of its entry
 pub record AreAnswersFound {K : Type 0} (users : List User) (boot : Boot) (found : Entries K Turn) (done : ℕ) (tables : Tables) : Type 0 where
   pub entries : (user number : ℕ) → IsEntry users user number → (told : List Told) × (table_of tables user number ≡ Some told)
   pub each : (user number : ℕ) (told : List Told) (i : ℕ) (t : Told) → table_of tables user number ≡ Some told → slice_get told i ≡ Some t → IsAnswerFound users boot found done user number t
   pub all : (place : ℕ) (t : Turn) (g h : Going) (a : Answer) (told : List Told) → place < done → IsAt users boot found place g → Leads users t g h → last_answer h.book ≡ Some a → (a ≡ answer.Waits → ⊥)
       → table_of tables t.pick.user t.pick.number ≡ Some told → IsAmong told a
 
--- what each turn from a state that was looked behind brought to an entry that waited is among the
+-- what each turn from a state that was expanded brought to an entry that waited is among the
 -- answers of that entry
 abbrev pub IsMailFound : {K : Type 0} → List User → Boot → Entries K Turn → ℕ → Tables → Type 0
 IsMailFound users boot found done tables = (place : ℕ) (t : Turn) (g h : Going) (user number : ℕ) (a : Answer) (told : List Told) → place < done → IsAt users boot found place g → Leads users t g h → IsMailed users g.places h user number t a
@@ -84,8 +84,8 @@ pub record AreAnswersInRuns (users : List User) (boot : Boot) (tables : Tables) 
   pub own : (n : ℕ) (t : Turn) (g h : Going) (a : Answer) → IsRun users boot n g → Leads users t g h → last_answer h.book ≡ Some a → (a ≡ answer.Waits → ⊥) → IsKeptOf tables t.pick.user t.pick.number a
   pub mail : (n : ℕ) (t : Turn) (g h : Going) (user number : ℕ) (a : Answer) → IsRun users boot n g → Leads users t g h → IsMailed users g.places h user number t a → IsKeptOf tables user number a
 
--- so many turns lead from states that were looked behind, and so many of these are over, as far as
--- a count goes
+-- this many turns lead from states that were expanded, and this many of these are over, as far as a
+-- count goes
 pub record AreCountedFound {K : Type 0} (users : List User) (boot : Boot) (found : Entries K Turn) (done : ℕ) (made over : ℕ) : Type 0 where
   pub shown : Shown
   pub are : AreShown users (beginning users boot) (paths_below found done) shown
@@ -96,7 +96,7 @@ abbrev pub IsSeenFrom : List User → Going → Option Turn → Going → Type 0
 IsSeenFrom users g None h = g ≡ h
 IsSeenFrom users g (Some t) h = Leads users t g h
 
--- a question fails in the state in a place that was looked behind, or by a turn from it
+-- a question fails in the state in a place that was expanded, or by a turn from it
 pub record IsFailureFound {K : Type 0} (users : List User) (boot : Boot) (found : Entries K Turn) (done : ℕ) (q : Asked) (seen : Sighting) : Type 0 where
   pub within : seen.place < done
   pub state : Going
@@ -105,7 +105,7 @@ pub record IsFailureFound {K : Type 0} (users : List User) (boot : Boot) (found 
   pub is : IsSeenFrom users state seen.turn going
   pub fails : fails users q seen.turn going ≡ true
 
--- it fails in no state that was looked behind, and by no turn from one
+-- a question fails in no state that was expanded, and by no turn from one
 pub record IsHeldFound {K : Type 0} (users : List User) (boot : Boot) (found : Entries K Turn) (done : ℕ) (q : Asked) : Type 0 where
   pub states : (place : ℕ) (g : Going) → place < done → IsAt users boot found place g → fails users q None g ≡ false
   pub turns : (place : ℕ) (t : Turn) (g h : Going) → place < done → IsAt users boot found place g → Leads users t g h → fails users q (Some t) h ≡ false
@@ -115,7 +115,7 @@ abbrev pub IsJudgedFound : {K : Type 0} → List User → Boot → Entries K Tur
 IsJudgedFound users boot found done q None = IsHeldFound users boot found done q
 IsJudgedFound users boot found done q (Some seen) = IsFailureFound users boot found done q seen
 
--- so is each question
+-- each question is judged rightly over all that was found
 pub record AreJudgedFound {K : Type 0} (users : List User) (boot : Boot) (found : Entries K Turn) (done : ℕ) (questions : List AskedLine) (failed : List (Option Sighting)) : Type 0 where
   pub long : length failed ≡ length questions
   pub each : (i : ℕ) (q : AskedLine) (f : Option Sighting) → slice_get questions i ≡ Some q → slice_get failed i ≡ Some f → IsJudgedFound users boot found done q.asked f
@@ -124,7 +124,7 @@ pub record AreJudgedFound {K : Type 0} (users : List User) (boot : Boot) (found 
 abbrev pub IsGiven : List User → Turn → Going → Going → ℕ → ℕ → Answer → Type 0
 IsGiven users t g h user number a = (IsAnswered t h user number a × (a ≡ answer.Waits → ⊥)) ⊎ IsMailed users g.places h user number t a
 
--- each end, each answer and each failure is kept in the first place where there is one like it
+-- each end, each answer and each failure is kept in the first place that has one like it
 pub record AreFirstFound {K : Type 0} (users : List User) (boot : Boot) (found : Entries K Turn) (done : ℕ) (questions : List AskedLine) (kinds : List Kind) (tables : Tables) (failed : List (Option Sighting)) : Type 0 where
   pub ends : (i place : ℕ) (k : Kind) (g : Going) → slice_get kinds i ≡ Some k → place < done → IsAt users boot found place g → IsOver users g → standings users g ≡ k.standing → k.place ≤ place
   pub answers : (user number i place : ℕ) (told : List Told) (t : Told) (u : Turn) (g h : Going) → table_of tables user number ≡ Some told → slice_get told i ≡ Some t → place < done → IsAt users boot found place g → Leads users u g h
@@ -146,6 +146,6 @@ pub record AreShortest {K : Type 0} (users : List User) (boot : Boot) (found : E
   pub failures : (i n : ℕ) (q : AskedLine) (seen : Sighting) (t : Option Turn) (g h : Going) → slice_get questions i ≡ Some q → slice_get failed i ≡ Some (Some seen) → IsRun users boot n g → IsSeenFrom users g t h
       → fails users q.asked t h ≡ true → depth_at found seen.place ≤ n
 
--- so is each question that did not fail
+-- each question that did not fail holds in all runs
 abbrev pub AreHeldInRuns : List User → Boot → List AskedLine → List (Option Sighting) → Type 0
 AreHeldInRuns users boot questions failed = (i : ℕ) (q : AskedLine) → slice_get questions i ≡ Some q → slice_get failed i ≡ Some None → IsHeldInRuns users boot q.asked

@@ -63,7 +63,7 @@ pub record IsHolding (s : UserScript) : Type 0 where
   pub questions : (i : ℕ) (q : AskedLine) → slice_get s.asked.items i ≡ Some q → HoldsInRuns s.users s.boot q.asked
   pub lives : (i n : ℕ) (l : Live) (g : Going) → slice_get s.lives.items i ≡ Some l → IsRun s.users s.boot n g → IsLive s.users l g
 
--- a script holds, if its states are told apart by proved keys
+-- a script holds, if its states are distinguished by proved keys
 abbrev pub IsProvedToHold : Bool → UserScript → Type 0
 IsProvedToHold exact s = (numbered : Bool) → mode_of s.boot s.users s.asked.items exact ≡ Proved numbered → IsHolding s
 

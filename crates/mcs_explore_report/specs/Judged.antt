@@ -26,7 +26,7 @@ pub record IsStateShown (states : List Sight) (i : ℕ) (g : Going) : Type 0 whe
   pub place : sight.place ≡ i
   pub going : sight.going ≡ g
 
--- a state was shown, or a turn from it and what is behind it
+-- a state was shown, or a turn from it and what is after it
 abbrev pub IsShownBy : Shown → ℕ → Option Turn → Going → Type 0
 IsShownBy shown i None g = IsStateShown shown.states i g
 IsShownBy shown i (Some t) g = IsShown shown.turns i t g
@@ -37,17 +37,17 @@ pub record HasFailed (users : List User) (q : Asked) (shown : Shown) (seen : Sig
   pub is : IsShownBy shown seen.place seen.turn going
   pub fails : fails users q seen.turn going ≡ true
 
--- it failed nowhere in what was shown
+-- a question failed nowhere in what was shown
 pub record HasHeld (users : List User) (q : Asked) (shown : Shown) : Type 0 where
   pub states : (j : ℕ) (s : Sight) → slice_get shown.states j ≡ Some s → fails users q None s.going ≡ false
   pub turns : (j : ℕ) (m : Made) → slice_get shown.turns j ≡ Some m → fails users q (Some m.turn) m.going ≡ false
 
--- it failed where it says, and if it does not say so, nowhere
+-- a question failed where it is noted to have failed, and nowhere if nothing is noted
 abbrev pub IsJudged : List User → Asked → Shown → Option Sighting → Type 0
 IsJudged users q shown None = HasHeld users q shown
 IsJudged users q shown (Some seen) = HasFailed users q shown seen
 
--- so is each question
+-- each question is judged by what was shown
 pub record AreJudged (users : List User) (questions : List AskedLine) (shown : Shown) (failed : List (Option Sighting)) : Type 0 where
   pub long : length failed ≡ length questions
   pub each : (i : ℕ) (q : AskedLine) (f : Option Sighting) → slice_get questions i ≡ Some q → slice_get failed i ≡ Some f → IsJudged users q.asked shown f

@@ -78,12 +78,12 @@ has_given users g e = elim (user_of users e.thread) [
   | Some i ↦ elim (slice_get g.places i) [ None ↦ false | Some p ↦ nat_le e.number (gave_by p) ]
 ]
 
--- the lines of a trace for these records, before which so many messages were sent
+-- the lines of a trace for these records, before which this many messages were sent
 abbrev pub record_lines : ℕ → List Rec → List (List ℕ)
 record_lines n [] = []
 record_lines n (r ∷ rs) = record_text n r ∷ record_lines (sent_with n r) rs
 
--- the lines of a trace behind the step of a line of the book: its answer and its records
+-- the lines of a trace after the step of a line of the book: its answer and its records
 abbrev pub lines_told : ℕ → Line → List (List ℕ)
 lines_told n l = answer_text l.answer ∷ record_lines n l.records
 
@@ -124,8 +124,8 @@ abbrev pub NameNone : List (List ℕ) → Type 0
 NameNone [] = Unit {0}
 NameNone (w ∷ ws) = ((n : ℕ) → bytes_eq w (109 ∷ decimal n) ≡ false) × NameNone ws
 
--- states in which the numbers of messages are told apart decide each question; others do, but for
--- patterns that name a message
+-- states in which the numbers of messages are distinguished decide each question; others do, but
+-- for patterns that name a message
 abbrev pub IsDecided : Bool → Asked → Type 0
 IsDecided false (asked.Never pattern) = NameNone (words_of pattern.items)
 IsDecided numbered q = Unit {0}

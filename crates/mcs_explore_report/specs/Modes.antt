@@ -1,4 +1,4 @@
--- How states are told apart (own).
+-- How states are distinguished (own).
 use Rattle.std.specs.Prelude.{ℕ, ◌≡◌, ◌≤◌, ◌&&◌, ◌||◌, Bool, true, false, not, List, length}
 use Rattle.std.specs.List.{list_any}
 use Rattle.mcs_types.specs.Changes.{makes_object}
@@ -11,8 +11,8 @@ use Rattle.mcs_explore_report.specs.declared.modes.Mode.TheVariants.{Proved, Can
 use Rattle.mcs_explore_script.specs.declared.questions.AskedLine.{AskedLine}
 use Rattle.mcs_explore_report.specs.Naming.{names_later, names_message}
 
--- whether states that are not told apart are proved to have one future, and whether the numbers of
--- messages are told apart
+-- whether states that are not distinguished are proved to have one future, and whether the numbers
+-- of messages are distinguished
 abbrev pub is_proved : Mode → Bool
 is_proved (Proved numbered) = true
 is_proved Canonical = false
@@ -32,8 +32,8 @@ any_message questions = list_any (λ (q : AskedLine). names_message q.asked) que
 abbrev pub any_later : Boot → List AskedLine → Bool
 any_later boot questions = list_any (λ (q : AskedLine). names_later boot q.asked) questions
 
--- what is asked for or named is told apart; else numbers of messages are not, nor are objects that
--- users make but by their slots
+-- what is asked for or named is distinguished; else numbers of messages are not, nor are objects
+-- that users make but by their slots
 abbrev pub mode_by : Bool → Bool → Mode
 mode_by true merges = Proved true
 mode_by false true = Canonical

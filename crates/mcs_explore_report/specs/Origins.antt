@@ -67,7 +67,7 @@ IsMadeOrigin boot R o origin.NoSlot = IsFirstSlot boot R o None
 abbrev pub IsOrigin : Boot → Log → Standing → Origin → Type 0
 IsOrigin boot R s x = elim (made_object boot s) [ None ↦ x ≡ origin.Boot | Some o ↦ IsMadeOrigin boot R o x ]
 
--- each of the first n of a list has one in a second list, and it is so
+-- each of the first n items of a list is related to the item of a second list in its place
 pub record AreSo {A B : Type 0} (Is : A → B → Type 0) (xs : List A) (n : ℕ) (ys : List B) : Type 0 where
   pub long : length ys ≡ n
   pub each : (i : ℕ) (x : A) (y : B) → slice_get xs i ≡ Some x → slice_get ys i ≡ Some y → Is x y

@@ -1,4 +1,4 @@
--- What came of questions (own).
+-- The results of questions (own).
 use Rattle.std.specs.Prelude.{ℕ, ◌≡◌, ◌<◌, ◌≤◌, ◌++◌, ◌⊎◌, ◌&&◌, ◌||◌, Bool, true, false, not, cond, is_none, is_some, List, [], ◌∷◌, Option, Some, None, length, slice_get, take}
 use Rattle.std.specs.List.{filter, list_all, list_any}
 use Rattle.mcs_turns.specs.Turns.{User}
@@ -28,7 +28,7 @@ abbrev pub fails : Outcome → Bool
 fails outcome.Fails = true
 fails _ = false
 
--- what came of a question that does not hold by what was found: of a search that is not whole, the
+-- the result of a question that does not hold by what was found: of a search that is not whole, the
 -- answer that it asks for may still come
 abbrev pub missed : Bool → Option Sighting → Outcome
 missed whole seen = cond (is_none seen && not whole) outcome.NotSeen outcome.Fails
@@ -40,7 +40,7 @@ pub record IsHeld (users : List User) (kinds : List Kind) (tables : Tables) (f :
   pub is : IsVerdict users kinds tables f stuck q verdict
   pub holds : verdict.holds ≡ true
 
--- so each of the first n lines holds that is a question
+-- each of the first n lines that is a question holds
 abbrev pub AreHeldBelow : List User → List Kind → Tables → List (Option Sighting) → List AskedLine → ℕ → Type 0
 AreHeldBelow users kinds tables failed questions n = (i : ℕ) (q : AskedLine) → i < n → slice_get questions i ≡ Some q → is_question q.asked ≡ true → IsHeld users kinds tables (failed_at failed i) q.asked
 
@@ -54,7 +54,7 @@ pub record IsMissed (users : List User) (kinds : List Kind) (tables : Tables) (f
   pub fails : verdict.holds ≡ false
   pub shown : (is_some verdict.seen ≡ true) ⊎ (states ≤ done)
 
--- so it is with one of the questions
+-- one of the questions does not hold
 pub record HasMissed (users : List User) (kinds : List Kind) (tables : Tables) (failed : List (Option Sighting)) (questions : List AskedLine) (live : Bool) (states done : ℕ) : Type 0 where
   pub index : ℕ
   pub line : AskedLine
@@ -104,7 +104,7 @@ pub record AddsJudged (users : List User) (kinds : List Kind) (tables : Tables) 
   pub held : (q : AskedLine) → slice_get questions number ≡ Some q → holds judged.outcome ≡ true → IsHeld users kinds tables (failed_at failed number) q.asked
   pub missed : (q : AskedLine) → slice_get questions number ≡ Some q → fails judged.outcome ≡ true → IsMissed users kinds tables (failed_at failed number) live states done q.asked
 
--- so is a line that asks something that holds or not; another is left out
+-- one line more is judged, if it asks something that holds or not; another line is left out
 pub record IsJudgedMore (users : List User) (kinds : List Kind) (tables : Tables) (failed : List (Option Sighting)) (questions : List AskedLine) (live : Bool) (states done number : ℕ) (old new : List Judged) : Type 0 where
   pub asks : (q : AskedLine) → slice_get questions number ≡ Some q → is_question q.asked ≡ true → AddsJudged users kinds tables failed questions live states done number old new
   pub other : (q : AskedLine) → slice_get questions number ≡ Some q → is_question q.asked ≡ false → new ≡ old

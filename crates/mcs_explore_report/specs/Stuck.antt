@@ -22,18 +22,18 @@ use Rattle.mcs_explore_report.specs.Found.{IsAt}
 use Rattle.mcs_explore_report.specs.Judging.{answered}
 use Rattle.mcs_turns.specs.Mail.{brought}
 
--- whether a list that goes on with this entry behind its last comes to another one again
+-- whether a list that continues with this entry after its last comes to another one again
 abbrev pub comes_again : Option ℕ → ℕ → Bool
 comes_again None e = false
 comes_again (Some first) e = nat_le first e
 
--- whether a user that was answered so many entries was answered what is asked for, and does not
+-- whether a user that was answered this many entries was answered what is asked for, and does not
 -- come back to it; of an entry of a program that is not known
 abbrev pub settled_by : User → Option ℕ → ℕ → Bool
 settled_by u None count = nat_le (length u.entries) count
 settled_by u (Some e) count = not (is_program u.ops) && (nat_lt e count && not (comes_again u.again e))
 
--- whether the user of a question was; so it is where there is no such user
+-- whether the user of a question has been answered what is asked for; true if there is no such user
 abbrev pub is_settled : List User → Live → Going → Bool
 is_settled users l g = elim (slice_get users l.user) [ None ↦ true | Some u ↦ settled_by u l.entry (answered users g l.user) ]
 
@@ -41,7 +41,7 @@ is_settled users l g = elim (slice_get users l.user) [ None ↦ true | Some u �
 abbrev pub is_about : Live → Pick → Bool
 is_about l k = (k.user == l.user) && elim l.entry [ None ↦ true | Some e ↦ k.number == e ]
 
--- whether what reached a thread is what an entry comes to that is asked about
+-- whether what reached a thread is the result of an entry that is asked about
 abbrev pub is_mailed : List User → List Position → Turn → Live → Reached → Bool
 is_mailed users from t l r = elim (mailed_to users from t r) [ None ↦ false | Some k ↦ is_about l k ]
 
@@ -63,7 +63,7 @@ answers_last users l t g h = elim (last_answer h.book) [ None ↦ false | Some a
 abbrev pub IsNear : List User → Live → Going → Type 0
 IsNear users l g = (is_settled users l g ≡ true) ⊎ ((t : Turn) × ((h : Going) × (Leads users t g h × (answers_last users l t g h ≡ true))))
 
--- a run leads on from a state to one where that is so
+-- a run leads on from a state to one where what is asked about is settled, or a turn answers it
 pub record IsLive (users : List User) (l : Live) (g : Going) : Type 0 where
   pub turns : ℕ
   pub going : Going
@@ -98,7 +98,7 @@ pub record IsNotedBy (users : List User) (shown : Shown) (l : Live) (n : Noted) 
   pub settled : n.settled ≡ map (λ (s : Sight). is_settled users l s.going) shown.states
   pub answered : n.answered ≡ flat_map (λ (m : Made). cond (answers users l m.turn m.answer m.from (brought m.going.book)) (m.place ∷ []) []) shown.turns
 
--- so it is of each
+-- each question has its notes
 pub record AreNotedBy (users : List User) (lives : List Live) (shown : Shown) (notes : List Noted) : Type 0 where
   pub long : length notes ≡ length lives
   pub each : (i : ℕ) (l : Live) (n : Noted) → slice_get lives i ≡ Some l → slice_get notes i ≡ Some n → IsNotedBy users shown l n
@@ -111,7 +111,7 @@ abbrev pub with_marks : List ℕ → List Bool → List Bool
 with_marks [] marks = marks
 with_marks (p ∷ ps) marks = with_marks ps (with_mark p marks)
 
--- the marks of so many places: where a question is settled or a turn answers it, and those that
+-- the marks of this many places: where a question is settled or a turn answers it, and those that
 -- were not expanded
 abbrev pub first_marks : ℕ → Noted → List Bool
 first_marks states n = with_marks n.answered (take (min (length n.settled) states) n.settled ++ replicate (states - min (length n.settled) states) true)

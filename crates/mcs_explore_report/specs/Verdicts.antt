@@ -1,4 +1,4 @@
--- What is told of questions (own).
+-- What is reported about questions (own).
 use Rattle.std.specs.Prelude.{ℕ, ◌≡◌, ◌-◌, ◌<◌, ◌&&◌, ◌⊎◌, nat_lt, Bool, true, false, is_none, is_some, unwrap_or, List, [], Option, Some, None, length, slice_get}
 use Rattle.std.specs.List.{list_any}
 use Rattle.mcs_types.specs.declared.entry.Answer.{Answer}
@@ -29,7 +29,7 @@ pub record IsFoundIn (told : List Told) (pattern : List ℕ) (wanted : Bool) (se
   pub is : is_said pattern one.answer ≡ wanted
   pub seen_is : seen ≡ record { place = one.place; turn = Some one.turn }
 
--- none of the first n answers is so
+-- none of the first n answers matches as wanted
 abbrev pub IsNotIn : List Told → List ℕ → Bool → ℕ → Type 0
 IsNotIn told pattern wanted n = (i : ℕ) (t : Told) → i < n → slice_get told i ≡ Some t → is_said pattern t.answer ≡ wanted → ⊥
 
@@ -37,7 +37,7 @@ IsNotIn told pattern wanted n = (i : ℕ) (t : Told) → i < n → slice_get tol
 abbrev pub answers_of : List User → Tables → Event → List Told
 answers_of users tables e = elim (user_of users e.thread) [ None ↦ [] | Some i ↦ unwrap_or (table_of tables i (e.number - 1)) [] ]
 
--- what a look for such an answer gave: where there is one, and none where there is none
+-- what a search for such an answer gave: where it is, or none
 abbrev pub IsSearched : List Told → List ℕ → Bool → Option Sighting → Type 0
 IsSearched told pattern wanted None = IsNotIn told pattern wanted (length told)
 IsSearched told pattern wanted (Some seen) = IsFoundIn told pattern wanted seen
@@ -67,18 +67,18 @@ pub record IsWithout (kinds : List Kind) (e : Event) (seen : Sighting) : Type 0 
   pub before : HasEach kinds e index
   pub seen_is : seen ≡ record { place = kind.place; turn = None }
 
--- what a look for such an end gave: where there is one, and none where there is none
+-- what a search for such an end gave: where it is, or none
 abbrev pub IsEndSearched : List Kind → Event → Option Sighting → Type 0
 IsEndSearched kinds e None = HasEach kinds e (length kinds)
 IsEndSearched kinds e (Some seen) = IsWithout kinds e seen
 
--- an answer that is not of the pattern, or an end without one; none where there is neither
+-- an answer that is not of the pattern, or an end without one; none if there is neither
 abbrev pub IsAlways : List Told → List ℕ → List Kind → Event → Option Sighting → Type 0
 IsAlways told pattern kinds e None = IsNotIn told pattern false (length told) × HasEach kinds e (length kinds)
 IsAlways told pattern kinds e (Some seen) = IsFoundIn told pattern false seen ⊎ IsWithout kinds e seen
 
--- what is told of a question, which failed first here, if it did, and whose user can't go on from
--- there first, if it can't somewhere
+-- what is reported about a question, which failed first here, if it did, and whose user can't go on
+-- from there first, if it can't somewhere
 abbrev pub IsVerdict : List User → List Kind → Tables → Option Sighting → Option Sighting → Asked → Verdict → Type 0
 IsVerdict users kinds tables f stuck (asked.Idle thread entries) v = v ≡ record { holds = true; seen = None }
 IsVerdict users kinds tables f stuck (asked.Again event) v = v ≡ record { holds = true; seen = None }

@@ -1,4 +1,4 @@
-//! Entries that a path gives again though they were answered, as the rule of runs has it of lists.
+//! Answered entries that a path gives again, as the rule of runs allows for lists.
 use crate::mail::{brought, mailed_to};
 use mcs_explore_orders::{OrdersFault, Turn, Users, Walk};
 use mcs_explore_questions::Event;
@@ -8,7 +8,7 @@ use mcs_queues::PlainLines;
 use mcs_types::Status;
 use std::alloc::Global;
 
-/// A path of turns as far as it is made, and for each user the entry with which it waited and that
+/// A path of turns as far as it was made, and for each user the entry in which it waited and that
 /// was answered since, by its number from 0.
 struct Path<'a> {
     alloc: Global,
@@ -17,7 +17,7 @@ struct Path<'a> {
     answered: Vec<Option<usize>>,
 }
 
-// By hand, so that it is a function of its own.
+// Written by hand, so that it is proved once, as a separate function.
 impl<'a> Drop for Path<'a> {
     fn drop(self) {
         let Path {
@@ -30,7 +30,7 @@ impl<'a> Drop for Path<'a> {
 }
 
 impl<'a> Path<'a> {
-    /// Returns the path before its first turn. OutOfMemory where memory was refused.
+    /// Returns the path before its first turn. `OutOfMemory` if an allocation fails.
     fn new(alloc: Global, script: &'a UserScript) -> Result<Path<'a>, OrdersFault> {
         let users = &script.users;
         let walk = Walk::new(alloc, &script.boot, users)?;
@@ -44,7 +44,7 @@ impl<'a> Path<'a> {
         })
     }
 
-    /// Returns whether a turn gives an entry again that was answered: one of a list whose thread is
+    /// Returns whether a turn repeats an entry that was answered: one of a list whose thread was
     /// restarted.
     fn gives_again(&self, turn: Turn) -> bool {
         let Some(list) = self.users.at(turn.pick.user) else {
@@ -65,8 +65,8 @@ impl<'a> Path<'a> {
         }
     }
 
-    /// Makes a turn, and notes which entries that waited it answered. OutOfMemory where memory was
-    /// refused.
+    /// Makes a turn, and notes which waiting entries it answered. `OutOfMemory` if an allocation
+    /// fails.
     fn step(&mut self, turn: Turn) -> Result<(), OrdersFault> {
         let from = Vec::from_slice(self.alloc, self.walk.places())?;
         let picks = self.walk.picks(self.alloc, self.users)?;
@@ -80,7 +80,7 @@ impl<'a> Path<'a> {
         Ok(())
     }
 
-    /// Makes turns up to the first that gives an entry again that was answered, and returns that.
+    /// Makes turns up to the first that repeats an answered entry, and returns that one.
     fn find(&mut self, turns: &[Turn]) -> Result<Option<Turn>, OrdersFault> {
         for turn in turns {
             if self.gives_again(*turn) {
@@ -92,8 +92,8 @@ impl<'a> Path<'a> {
     }
 }
 
-/// Returns the first entry that these turns give again after it was answered, if they give one.
-/// OutOfMemory where memory was refused.
+/// Returns the first entry that these turns repeat after its answer, if any. `OutOfMemory` if an
+/// allocation fails.
 pub fn given_again(
     alloc: Global,
     script: &UserScript,

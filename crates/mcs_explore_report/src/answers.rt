@@ -7,7 +7,7 @@ use mcs_types::{Answer, Entry};
 use std::alloc::{AllocError, Global};
 use std::marker::Model;
 
-/// An answer, and the first turn by which it came: from the state in this place.
+/// An answer, and the first turn that brought it: from the state at this index.
 #[derive(Drop)]
 pub struct Told {
     pub answer: Answer,
@@ -15,7 +15,7 @@ pub struct Told {
     pub turn: Turn,
 }
 
-/// The answers of an entry, the one that came first before the others.
+/// The answers of an entry, in the order of discovery.
 #[derive(Drop)]
 struct Table {
     told: Vec<Told>,
@@ -62,7 +62,7 @@ impl Model for Answers {
 }
 
 impl Table {
-    /// No answer.
+    /// Returns a table without answers.
     fn new(alloc: Global) -> Table
         ensures { result ≡ [] }
     {
@@ -71,7 +71,7 @@ impl Table {
         }
     }
 
-    /// Returns whether an answer is there.
+    /// Returns whether an answer is in the table.
     fn has(&self, answer: &Answer) -> bool
         ensures { IsTrue result ↔ IsAmong self.now answer.now }
     {
@@ -115,7 +115,7 @@ impl Table {
 }
 
 impl Tables {
-    /// No answer of so many entries.
+    /// Returns a table without answers for each entry.
     fn new(alloc: Global, entries: &[Entry]) -> Result<Tables, AllocError>
         ensures { IfOk result (λ t. t ≡ map (λ e. []) entries.now) }
     {
@@ -158,7 +158,7 @@ impl Tables {
 }
 
 impl Answers {
-    /// No answer yet.
+    /// Returns tables without answers for all entries.
     pub fn new(alloc: Global, users: &Users) -> Result<Answers, AllocError>
         ensures { IfOk result (λ a. a ≡ no_answers users.now) }
     {
@@ -173,7 +173,7 @@ impl Answers {
         })
     }
 
-    /// The answers of an entry; none where there is no such entry.
+    /// Returns the answers of an entry; none if the entry does not exist.
     pub fn of(&self, user: usize, number: usize) -> &[Told]
         ensures { result.now ≡ unwrap_or (table_of self.now user number) [] }
     {
@@ -202,7 +202,7 @@ impl Answers {
         tables.note(self.alloc, number, answer, place, turn)
     }
 
-    /// Notes what a turn from the state in a place was answered, if its entry does not wait.
+    /// Notes the answer to a turn from the state at an index, unless the entry waits.
     pub fn note_turn(
         &mut self,
         answer: &Answer,

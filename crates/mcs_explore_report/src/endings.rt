@@ -9,16 +9,16 @@ use mcs_explore_script::AskedLine;
 /// How a run ends.
 #[derive(Clone, Copy, PartialEq, Eq)]
 pub enum Ending {
-    /// Each user has given all its entries and waits for nothing, or may wait there for ever.
+    /// Each user has given all its entries and is not blocked, or may wait there for ever.
     AllDone,
-    /// One waits that may not wait for ever.
+    /// A user is blocked that may not wait for ever.
     Deadlock,
-    /// One has entries left, and waits for nobody.
+    /// A user has entries left, and is not blocked.
     EntriesLeft,
 }
 
 impl Ending {
-    /// Returns the words for it.
+    /// Returns the words for it in a report.
     pub fn text(self) -> &'static str {
         match self {
             Ending::AllDone => "all done",
@@ -38,35 +38,35 @@ fn is_excused(asked: &[AskedLine], standing: &Standing) -> bool
         .any(|line| line.asked.excuses(standing.thread, number))
 }
 
-/// Returns whether a user waits for another, and a question lets it wait for ever.
+/// Returns whether a user is blocked, and a question lets it wait for ever.
 pub fn is_idle(asked: &[AskedLine], standing: &Standing) -> bool
     ensures { result ≡ is_idle asked.now standing.now }
 {
     standing.is_waiting() && is_excused(asked, standing)
 }
 
-/// Returns whether each of these users does.
+/// Returns whether each of these users is idle: blocked where a question lets it wait for ever.
 pub fn are_idle(asked: &[AskedLine], standing: &[Standing]) -> bool
     ensures { result ≡ are_idle asked.now standing.now }
 {
     standing.iter().all(|one| is_idle(asked, one))
 }
 
-/// Returns whether a user waits for another in this state, and may not for ever.
+/// Returns whether a user is blocked in this state, and may not wait for ever.
 fn is_deadlocked(asked: &[AskedLine], standing: &Standing) -> bool
     ensures { result ≡ is_deadlocked asked.now standing.now }
 {
     standing.is_waiting() && !is_excused(asked, standing)
 }
 
-/// Returns whether one of these users is.
+/// Returns whether one of these users is blocked and may not wait for ever.
 fn any_deadlocked(asked: &[AskedLine], standing: &[Standing]) -> bool
     ensures { result ≡ list_any (is_deadlocked asked.now) standing.now }
 {
     standing.iter().any(|one| is_deadlocked(asked, one))
 }
 
-/// Returns how a run ends in which these users are not done.
+/// Returns the kind of end at which these users are not done.
 pub fn ending_of(asked: &[AskedLine], standing: &[Standing]) -> Ending
     ensures { result ≡ ending_of asked.now standing.now }
 {

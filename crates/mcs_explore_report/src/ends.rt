@@ -18,12 +18,13 @@ pub struct Standing {
     pub thread: ObjId,
     pub status: Option<Status>,
     pub has_entries: bool,
-    /// How many of its entries were answered for good: it waits in the next one, or has it left.
+    /// How many of its entries have a final answer: it waits in the next one, or has not given
+    /// that.
     pub answered: usize,
 }
 
-/// A kind of end, by the users that are not done and their states: in how many places it comes, and
-/// the first of them.
+/// A kind of end, by the users that are not done and their states: at how many states it occurs,
+/// and the first of them.
 #[derive(Drop)]
 pub struct End {
     pub standing: Vec<Standing>,
@@ -40,7 +41,7 @@ impl Model for End {
 }
 
 impl End {
-    /// Counts so many ends more, up to `usize::MAX`.
+    /// Counts more ends of this kind, up to `usize::MAX`.
     fn add(&mut self, count: usize)
         ensures { self.new ≡ with_more self.old count }
     {
@@ -72,7 +73,7 @@ fn is_same_status(status: Status, other: Status) -> bool
     status == other
 }
 
-/// Returns the same where there may be none.
+/// Returns whether two statuses are the same; both may be None.
 #[tactic(auto, using(crate::proofs::SameStanding::some_status, crate::proofs::SameStanding::none_left, crate::proofs::SameStanding::none_right))]
 fn is_same_or_none(status: Option<Status>, other: Option<Status>) -> bool
     ensures { IsTrue result ↔ (status ≡ other) }
@@ -102,15 +103,15 @@ impl Standing {
         is_same_or_none(self.status, other.status)
     }
 
-    /// Returns the number of the entry in which it waits, or which it has left, from 1 on.
+    /// Returns the number of the entry in which it waits, or that it gives next, counted from 1.
     pub fn entry(&self) -> usize
         ensures { result ≡ entry_of self.now }
     {
         self.answered.saturating_add(1)
     }
 
-    /// Returns what it waits for: the object of a queue, or the reply object that owes it an
-    /// answer; None where it waits for nobody.
+    /// Returns what it is blocked on: the object of a queue, or the reply object that owes it a
+    /// reply; None if it is not blocked.
     pub fn object(&self) -> Option<ObjId>
         ensures { result ≡ waits_for self.now.status }
     {
@@ -122,7 +123,7 @@ impl Standing {
         }
     }
 
-    /// Returns whether it waits for another: it is in a queue, or is owed an answer.
+    /// Returns whether it is blocked: in a queue, or on a reply object.
     pub fn is_waiting(&self) -> bool
         ensures { result ≡ is_some (waits_for self.now.status) }
     {
@@ -137,7 +138,7 @@ fn is_blocked(status: Option<Status>) -> bool
     !matches!(status, Some(Status::Running | Status::Restart))
 }
 
-/// Returns the state of the user in a place; None where it is done and waits for nothing.
+/// Returns the state of the user at an index; None if it is done and not blocked.
 fn standing_of(users: &Users, walk: &Walk<PlainLines>, user: usize) -> Option<Standing>
     ensures { result ≡ standing_of users.now walk.now user }
 {
@@ -158,7 +159,7 @@ fn standing_of(users: &Users, walk: &Walk<PlainLines>, user: usize) -> Option<St
     }
 }
 
-/// Adds a user, if there is one.
+/// Adds the state of a user, if there is one.
 fn push(standing: &mut Vec<Standing>, stands: Option<Standing>) -> Result<(), OrdersFault>
     ensures { OnOk result (standing.new.items ≡ standing.old.items ++ listed stands) }
 {
@@ -183,7 +184,7 @@ fn standings(
     Ok(standing)
 }
 
-/// Returns whether the same users are in the same states.
+/// Returns whether both ends have the same users in the same states.
 pub fn is_same_kind(standing: &[Standing], other: &[Standing]) -> bool
     ensures { IsTrue result ↔ (standing.now ≡ other.now) }
 {
@@ -199,7 +200,7 @@ pub fn is_same_kind(standing: &[Standing], other: &[Standing]) -> bool
 }
 
 impl Ends {
-    /// Returns no end.
+    /// Returns an empty list of ends.
     pub fn new(alloc: Global) -> Ends
         ensures { result ≡ [] }
     {
@@ -216,7 +217,7 @@ impl Ends {
         self.kinds.as_slice()
     }
 
-    /// Returns the number of the kind with these users; None where there is none.
+    /// Returns the index of the kind with these users; None if there is none.
     fn find(&self, standing: &[Standing]) -> Option<usize>
         ensures within { IfSome result (λ i. i < length self.now) }
         ensures some { IfSome result (λ i. IsKindAt self.now standing.now i) }
@@ -231,7 +232,7 @@ impl Ends {
         None
     }
 
-    /// Counts so many ends more of a kind.
+    /// Counts more ends of the kind at an index.
     fn count(&mut self, index: usize, count: usize)
         requires { index < length self.old }
         ensures { (kind : Kind) → slice_get self.old index ≡ Some kind
@@ -259,8 +260,8 @@ impl Ends {
         Ok(())
     }
 
-    /// Adds ends of one kind: counts them where the kind is there, and else adds the kind.
-    /// OutOfMemory where memory was refused.
+    /// Adds ends of one kind: counts them if the kind exists, and else adds the kind. `OutOfMemory`
+    /// if an allocation fails.
     fn merge(&mut self, more: &End) -> Result<(), AllocError>
         ensures { OnOk result (IsMerged more.now self.old self.new) }
     {
@@ -276,8 +277,8 @@ impl Ends {
         Ok(())
     }
 
-    /// Adds ends of these kinds, each where its kind is, or as a new one. OutOfMemory where memory
-    /// was refused.
+    /// Adds ends of these kinds, each where its kind is, or as a new one. `OutOfMemory` if an
+    /// allocation fails.
     pub fn merge_all(&mut self, more: &[End]) -> Result<(), AllocError>
         ensures { OnOk result (AreMerged more.now self.old self.new) }
     {

@@ -1,4 +1,4 @@
-//! The search, and what is kept of it.
+//! The search, and the collection of its findings.
 ghost use Rattle.std.specs.Prelude.{ℕ, true, ◌≡◌, ◌≤◌, ◌⊎◌, Bool, IfOk, Some, length, slice_get};
 ghost use Rattle.mcs_types.specs.declared.entry.Entry.{Entry};
 ghost use Rattle.mcs_types.specs.Ranges.{InRange};
@@ -20,7 +20,7 @@ use mcs_lab_check::LabFault;
 use mcs_types::Entry;
 use std::alloc::Global;
 
-/// How far a search goes, and whether it tells states apart by all that a book records.
+/// The limits of a search, and whether it distinguishes states by all that a book records.
 #[derive(Clone, Copy)]
 pub struct Wanted {
     pub states: usize,
@@ -28,7 +28,7 @@ pub struct Wanted {
     pub is_exact: bool,
 }
 
-/// Shows that the numbers of entries are in their ranges.
+/// Proves that the numbers of entries are in their ranges.
 fn entries_are_in_range(entries: &[Entry])
     ensures { (j : ℕ) (e : Entry) → slice_get entries.now j ≡ Some e → InRange e }
 {
@@ -39,7 +39,7 @@ fn entries_are_in_range(entries: &[Entry])
     }
 }
 
-/// Shows that the numbers of all entries of users are in their ranges.
+/// Proves that the numbers of all entries of users are in their ranges.
 fn are_in_range(users: &Users)
     ensures { AreInRange users.now }
 {
@@ -51,8 +51,8 @@ fn are_in_range(users: &Users)
     }
 }
 
-/// Goes through all orders of users after a boot, as far as is wanted, tells how far it is, and
-/// keeps what comes of them. States are told apart as `mode_of` says.
+/// Searches all orders of users after a boot up to the wanted limits, reports its progress, and
+/// collects the findings. `mode_of` says which states it distinguishes.
 pub fn watched<'a, P: Progress>(
     alloc: Global,
     boot: &'a Boot,
@@ -68,7 +68,7 @@ pub fn watched<'a, P: Progress>(
     ensures whole { IfOk result (λ o. (is : IsWholeSearch boot.now users.now asked.entry.now
         wanted.is_exact o.search.map.entries o.search.done)
         → AreAllSeen is.numbered users.now boot.now o.search.map.entries) }
-    // it ends where all were expanded, by the budget, or as `progress` stops it
+    // it ends when all were expanded, by the budget, or because `progress` stops it
     ensures budget { IfOk result (λ o. (length o.search.map.entries ≤ o.search.done)
         ⊎ IsSpent wanted.states wanted.depth o.search.done o.search.map.entries
         ⊎ (o.search.is_stopped ≡ true)) }
@@ -77,61 +77,60 @@ pub fn watched<'a, P: Progress>(
         AreNear wanted.depth o.search.done o.search.map.entries) }
     ensures few { IfOk result (λ o.
         AreFoundLast wanted.states o.search.done o.search.map.entries) }
-    // each end that is kept is that of such a state, and the end of each state that was expanded
-    // and is over is kept
+    // each kept end is that of such a state, and the end of each expanded state that is over is
+    // kept
     ensures ends { IfOk result (λ o. AreEndsFound users.now boot.now
         o.search.map.entries o.search.done o.explorer.watch.ends) }
-    // each answer that is kept came by a turn from such a state, and what each such turn was
-    // answered but Waits is kept
+    // each kept answer came by a turn from such a state, and the answer of each such turn is kept,
+    // unless Waits
     ensures answers { IfOk result (λ o. AreAnswersFound users.now boot.now
         o.search.map.entries o.search.done o.explorer.watch.answers) }
-    // what each such turn brought to an entry that waited is kept
+    // what each such turn brought to a waiting entry is kept
     ensures mail { IfOk result (λ o. IsMailFound users.now boot.now
         o.search.map.entries o.search.done o.explorer.watch.answers) }
-    // of a whole search the end of each run that is over is kept
+    // whole search: the end of each run that is over is kept
     ensures run_ends { IfOk result (λ o. IsWholeSearch boot.now users.now asked.entry.now
         wanted.is_exact o.search.map.entries o.search.done
         → AreEndsInRuns users.now boot.now o.explorer.watch.ends) }
-    // and each answer of each turn of each run, but Waits, and what it brought to an entry that
-    // waited
+    // and so is each answer of each turn of each run, unless Waits, and what it brought to a
+    // waiting entry
     ensures run_answers { IfOk result (λ o. IsWholeSearch boot.now users.now asked.entry.now
         wanted.is_exact o.search.map.entries o.search.done
         → AreAnswersInRuns users.now boot.now o.explorer.watch.answers) }
-    // each question failed where it says, in such a state or by a turn from one, and if it does not
-    // say so, nowhere
+    // each question failed where it says, in such a state or at a turn from one; one without such a
+    // place failed nowhere
     ensures judged { IfOk result (λ o. AreJudgedFound users.now boot.now
         o.search.map.entries o.search.done asked.entry.now o.explorer.watch.failed.items) }
-    // of a whole search those that say nothing fail in no run
+    // whole search: questions without such a place fail in no run
     ensures held { IfOk result (λ o. IsWholeSearch boot.now users.now asked.entry.now
         wanted.is_exact o.search.map.entries o.search.done
         → AreHeldInRuns users.now boot.now asked.entry.now o.explorer.watch.failed.items) }
-    // each end, answer and failure is kept in the first place where there is one like it: by the
-    // fewest turns, as these are sorted
+    // each end, answer and failure is kept where it was found first, that is, after the fewest
+    // turns
     ensures first { IfOk result (λ o. AreFirstFound users.now boot.now
         o.search.map.entries o.search.done asked.entry.now o.explorer.watch.ends
         o.explorer.watch.answers o.explorer.watch.failed.items) }
-    // of a whole search: no run in which there is one like it has fewer turns
+    // whole search: no shorter run has the same end, answer or failure
     ensures shortest { IfOk result (λ o. IsWholeSearch boot.now users.now asked.entry.now
         wanted.is_exact o.search.map.entries o.search.done
         → AreShortest users.now boot.now o.search.map.entries asked.entry.now
         o.explorer.watch.ends o.explorer.watch.answers o.explorer.watch.failed.items) }
-    // the turns and the ends that are counted are those of such states, up to the largest count,
-    // and the last is the deepest
+    // the counted turns and ends are those of such states, up to the largest count; the last state
+    // is the deepest
     ensures counts { IfOk result (λ o. AreCountedFound users.now boot.now
         o.search.map.entries o.search.done o.explorer.turns o.explorer.ends) }
     ensures sorted { IfOk result (λ o. AreSorted o.search.map.entries) }
-    // of a whole search: what is noted and the edges tell of each user from which state on it is
-    // stuck
+    // whole search: the notes and the edges decide for each user from which state on it is stuck
     ensures decided { IfOk result (λ o. IsWholeSearch boot.now users.now asked.entry.now
         wanted.is_exact o.search.map.entries o.search.done
         → AreDecided users.now boot.now lives.entry.now o.search.map.entries
         o.search.edges.items o.explorer.watch.lives.notes) }
-    // by proved keys: no run goes on from where a user is told to be stuck
+    // proved keys: from a state where a user is reported stuck no run answers what is asked of it
     ensures stuck { IfOk result (λ o. (numbered : Bool)
         → mode_of boot.now users.now asked.entry.now wanted.is_exact ≡ Proved numbered
         → AreStuckUnled users.now boot.now lives.entry.now o.search.map.entries
         o.search.edges.items o.explorer.watch.lives.notes) }
-    // its edges lie between states that were found
+    // its edges are between states that were found
     ensures within { IfOk result (λ o. AreWithin o.search.edges.items
         (length o.search.map.entries)) }
 {

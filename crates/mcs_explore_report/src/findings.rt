@@ -1,4 +1,4 @@
-//! What is reported of a search, before it is written.
+//! The contents of a report, before they are written.
 ghost use Rattle.std.specs.Prelude.{ℕ, true, false, ◌≡◌, ◌<◌, ◌≤◌, ◌⊎◌, IfOk, Some, is_some, length, slice_get};
 ghost use Rattle.mcs_explore_script.specs.declared.questions.AskedLine.{AskedLine};
 ghost use Rattle.mcs_explore_search.specs.Reaching.{AreWithin};
@@ -27,7 +27,7 @@ use mcs_trace::Line;
 use mcs_types::ObjId;
 use std::alloc::Global;
 
-/// An answer of an entry, and where it came first.
+/// An answer of an entry, and where it was found first.
 #[derive(Drop)]
 pub struct Answered {
     pub text: Vec<u8>,
@@ -40,7 +40,7 @@ pub struct AnsweredEntry {
     pub event: Event,
     /// Sorted by their texts.
     pub answers: Vec<Answered>,
-    /// Why it has no answer, where it has none.
+    /// Why it has no answer, if it has none.
     pub unanswered: Option<Unseen>,
 }
 
@@ -50,12 +50,12 @@ pub struct KindOfEnd<'a> {
     /// From 1 on.
     pub number: usize,
     pub end: &'a End,
-    /// Of each user by what its object is named; nothing where the boot made all of them.
+    /// For each user, how its object is named; empty if the boot made all of them.
     origins: &'a [Origin],
 }
 
 impl KindOfEnd<'_> {
-    /// Returns by what the object is named that the user in a place waits for.
+    /// Returns how the object is named on which the user at an index is blocked.
     pub fn origin(&self, place: usize) -> Origin {
         match self.origins.get(place) {
             Some(origin) => *origin,
@@ -64,31 +64,31 @@ impl KindOfEnd<'_> {
     }
 }
 
-/// A question and what came of it.
+/// A question and its result.
 #[derive(Drop)]
 pub struct Judged<'a> {
     pub line: &'a AskedLine,
     pub outcome: Outcome,
-    /// Where it failed, or where what it asks for was seen.
+    /// Where it failed, or where the wanted event was seen.
     pub seen: Option<Sighting>,
 }
 
-/// What was found by a search, by the script and what was kept.
+/// What a search found, with its script.
 pub struct Findings<'a, P: Progress> {
     pub alloc: Global,
     pub script: &'a UserScript,
     pub orders: &'a Orders<'a, Watched<'a, P>>,
-    /// The kinds of all ends, those of the deepest states among them.
+    /// The kinds of all ends, with those of the deepest states.
     pub ends: Ends,
-    /// Of each of them by what its objects are named.
+    /// For each kind of end, how its objects are named.
     origins: Vec<Vec<Origin>>,
-    /// Users that are stuck and of which no line asks.
+    /// Stuck users that no line `live` names.
     pub stuck: Vec<StuckUsers>,
-    /// Of each user that may get stuck the first place from which on it is.
+    /// For each user that must not get stuck, the first state from which on it is.
     places: Vec<Option<usize>>,
 }
 
-// By hand, so that it is a function of its own.
+// Written by hand, so that it is proved once, as a separate function.
 impl<'a, P: Progress> Drop for Findings<'a, P> {
     fn drop(self) {
         let Findings {
@@ -103,8 +103,8 @@ impl<'a, P: Progress> Drop for Findings<'a, P> {
     }
 }
 
-/// Returns all kinds of ends: those that a search kept, and those of the deepest states.
-/// OutOfMemory where memory was refused.
+/// Returns all kinds of ends: those that a search noted, and those of the deepest states.
+/// `OutOfMemory` if an allocation fails.
 fn all_ends(alloc: Global, kept: &Ends, deep: &Ends) -> Result<Ends, LabFault>
     ensures { IfOk result (λ ends. AreAllEnds kept.now deep.now ends) }
 {
@@ -114,8 +114,8 @@ fn all_ends(alloc: Global, kept: &Ends, deep: &Ends) -> Result<Ends, LabFault>
     Ok(ends)
 }
 
-/// Returns of each user that may get stuck the first place from which on it is. OutOfMemory where
-/// memory was refused.
+/// Returns for each user that must not get stuck the first state from which on it is. `OutOfMemory`
+/// if an allocation fails.
 fn first_places<P: Progress>(
     alloc: Global,
     count: usize,
@@ -133,7 +133,7 @@ fn first_places<P: Progress>(
     Ok(places)
 }
 
-/// Returns the text of an entry of a thread, by its number from 1 on.
+/// Returns the text of an entry of a thread, by its number, counted from 1.
 pub fn entry_text(script: &UserScript, thread: ObjId, number: usize) -> &[u8] {
     let mut count: usize = 0;
     for said in script.texts.iter() {
@@ -148,8 +148,7 @@ pub fn entry_text(script: &UserScript, thread: ObjId, number: usize) -> &[u8] {
 }
 
 impl<'a, P: Progress> Findings<'a, P> {
-    /// Returns what was found in these orders, which go no deeper than this. BookFull and
-    /// OutOfMemory as for a search.
+    /// Returns the findings of a search with this depth. BookFull and OutOfMemory as for a search.
     pub fn new(
         alloc: Global,
         script: &'a UserScript,
@@ -163,7 +162,7 @@ impl<'a, P: Progress> Findings<'a, P> {
         ensures ends { IfOk result (λ f. (i : ℕ) (k : Kind)
             → slice_get orders.entry.now.explorer.watch.ends i ≡ Some k
             → HasKind f.ends k.standing) }
-        // and each is that of a run, if those are that the search kept
+        // and each is that of a run, if the kept ones are
         ensures real { IfOk result (λ f. AreRunEnds script.entry.now.users script.entry.now.boot
             orders.entry.now.explorer.watch.ends
             → AreRunEnds script.entry.now.users script.entry.now.boot f.ends) }
@@ -188,7 +187,7 @@ impl<'a, P: Progress> Findings<'a, P> {
         })
     }
 
-    /// Returns the kind of end with a number, from 0 on; None where there is none.
+    /// Returns the kind of end with a number, from 0 on; None if there is none.
     pub fn kind(&self, index: usize) -> Option<KindOfEnd<'_>> {
         match (self.ends.kinds().get(index), self.origins.get(index)) {
             (Some(end), Some(origins)) => Some(KindOfEnd {
@@ -213,7 +212,7 @@ impl<'a, P: Progress> Findings<'a, P> {
             .any(|end| self.ending(end) == ending)
     }
 
-    /// Returns whether in each kind of end each user is done, or may wait there for ever.
+    /// Returns whether in each kind of end each user is done, or may wait for ever.
     pub fn are_done(&self) -> bool
         ensures { result ≡ are_done self.now.script.now.asked.items self.now.ends }
     {
@@ -231,21 +230,21 @@ impl<'a, P: Progress> Findings<'a, P> {
         self.places.iter().all(|place| place.is_none())
     }
 
-    /// Returns whether a user is stuck of which no line asks.
+    /// Returns whether a user is stuck that no line `live` names.
     pub fn is_stuck(&self, user: usize) -> bool {
         self.stuck
             .iter()
             .any(|stuck| stuck.users.iter().any(|one| *one == user))
     }
 
-    /// Returns the first entry that is given again after it was answered, on the way to what is
-    /// seen, if one is. OutOfMemory where memory was refused.
+    /// Returns the first answered entry that is repeated on the way to what is seen, if any.
+    /// `OutOfMemory` if an allocation fails.
     pub fn given_again(&self, seen: Sighting) -> Result<Option<Event>, LabFault> {
         let turns = turns_of(self.orders, seen)?;
         given_again(self.alloc, self.script, &turns)
     }
 
-    /// Returns by how many turns something is seen.
+    /// Returns after how many turns something is seen.
     pub fn steps(&self, seen: Sighting) -> usize {
         let steps = self.orders.depth(seen.place);
         steps.saturating_add(usize::from(seen.turn.is_some()))
@@ -296,8 +295,8 @@ impl<'a, P: Progress> Findings<'a, P> {
         })
     }
 
-    /// Returns all entries with their answers, in the order of users and entries. Answers are
-    /// spelled in this line.
+    /// Returns all entries with their answers, in the order of users and entries. `line` is a
+    /// buffer for the text of an answer.
     pub fn entries(&self, line: &mut Line) -> Result<Vec<AnsweredEntry>, LabFault> {
         let users: &'a Users = &self.script.users;
         let mut all = Vec::new(self.alloc);
@@ -316,7 +315,7 @@ impl<'a, P: Progress> Findings<'a, P> {
         Ok(all)
     }
 
-    /// Returns whether an entry was answered in some order, by its number from 1 on.
+    /// Returns whether an entry was answered in some order, by its number, counted from 1.
     fn is_answered(&self, event: Event) -> bool {
         match self.script.users.find(event.thread) {
             Some(user) => {
@@ -327,7 +326,7 @@ impl<'a, P: Progress> Findings<'a, P> {
         }
     }
 
-    /// Returns whether an entry was given in some order, by its number from 1 on.
+    /// Returns whether an entry was given in some order, by its number, counted from 1.
     fn is_given(&self, event: Event) -> Result<bool, LabFault> {
         if self.is_answered(event) {
             return Ok(true);
@@ -347,7 +346,7 @@ impl<'a, P: Progress> Findings<'a, P> {
         }
     }
 
-    /// Returns why it is little that a question holds, if it is.
+    /// Returns why it says little that a question holds, if so.
     fn little(&self, asked: &Asked) -> Result<Option<Unseen>, LabFault> {
         match asked {
             Asked::Answer { event, .. } | Asked::AnswerIf { event, .. } => {
@@ -388,8 +387,8 @@ impl<'a, P: Progress> Findings<'a, P> {
         span.from == 0 || self.is_answered(event)
     }
 
-    /// Returns the verdict on the question with a number, from 0 on. Answers are spelled in this
-    /// line. OutOfMemory where memory was refused.
+    /// Returns the verdict on the question with a number, counted from 0. `line` is a buffer for
+    /// the text of an answer. `OutOfMemory` if an allocation fails.
     fn verdict(
         &self,
         line: &mut Line,
@@ -414,7 +413,7 @@ impl<'a, P: Progress> Findings<'a, P> {
         verdict_on(self.alloc, line, grounds, number, stuck, question)
     }
 
-    /// Returns what came of a question that holds.
+    /// Returns the result of a question that holds.
     fn held(&self, asked: &Asked) -> Result<Outcome, LabFault>
         ensures { IfOk result (λ o. holds o ≡ true) }
     {
@@ -424,7 +423,7 @@ impl<'a, P: Progress> Findings<'a, P> {
         }
     }
 
-    /// Returns what came of a question with this verdict.
+    /// Returns the result of a question with this verdict.
     fn outcome(&self, asked: &Asked, verdict: Verdict) -> Result<Outcome, LabFault>
         ensures held { IfOk result (λ o. holds o ≡ true → verdict.holds ≡ true) }
         ensures missed { IfOk result (λ o. fails o ≡ true → (verdict.holds ≡ false)
@@ -439,8 +438,8 @@ impl<'a, P: Progress> Findings<'a, P> {
         }
     }
 
-    /// Returns what came of the question with a number, from 0 on, and where that is seen. Answers
-    /// are spelled in this line. OutOfMemory where memory was refused.
+    /// Returns the result of the question with a number, counted from 0, and where it is seen.
+    /// `line` is a buffer for the text of an answer. `OutOfMemory` if an allocation fails.
     pub fn judged(&self, line: &mut Line, number: usize) -> Result<Judged<'a>, LabFault>
         requires { number < length self.now.script.now.asked.items }
         ensures held { IfOk result (λ j. (q : AskedLine)

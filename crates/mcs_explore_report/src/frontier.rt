@@ -1,5 +1,4 @@
-//! What was found, and not expanded: ends by the depth of a search, and entries that were
-//! given.
+//! States that were found and not expanded: their ends, and the entries given there.
 ghost use Rattle.std.specs.Prelude.{IfOk, OnOk};
 ghost use Rattle.mcs_explore_report.specs.Ends.{AreRunEnds};
 
@@ -10,8 +9,8 @@ use mcs_lab_check::LabFault;
 use mcs_queues::PlainLines;
 use std::alloc::Global;
 
-/// Notes the end in a state that these turns lead to, if it is over. BookFull and OutOfMemory as
-/// for a search.
+/// Notes the end in the state to which these turns lead, if that state is over. BookFull and
+/// OutOfMemory as for a search.
 fn note_end(
     alloc: Global,
     script: &UserScript,
@@ -31,7 +30,7 @@ fn note_end(
     Ok(())
 }
 
-/// Notes the end in the state in a place, if it is over. BookFull and OutOfMemory as for a search.
+/// Notes the end in the state at an index, if it is over. BookFull and OutOfMemory as for a search.
 fn note_deep<W: Watch>(
     alloc: Global,
     script: &UserScript,
@@ -52,8 +51,8 @@ fn note_deep<W: Watch>(
     }
 }
 
-/// Returns the ends among the states that were found and not expanded, where these are as deep as a
-/// search goes. BookFull and OutOfMemory as for a search.
+/// Returns the ends among the states that were found but not expanded because of the depth.
+/// BookFull and OutOfMemory as for a search.
 pub fn deep_ends<W: Watch>(
     alloc: Global,
     script: &UserScript,
@@ -81,8 +80,8 @@ pub fn count_of(kinds: &[End]) -> usize {
     count
 }
 
-/// Returns whether an entry was given on the way to a state that was found, by the number of its
-/// user and its own, from 0.
+/// Returns whether an entry was given on the way to some state that was found, by the numbers of
+/// its user and its own, from 0.
 pub fn is_given<W: Watch>(
     orders: &Orders<'_, W>,
     user: usize,

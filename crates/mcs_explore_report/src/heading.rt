@@ -1,9 +1,9 @@
-//! The first line of a report: the rules of users, and how states were told apart.
+//! The first line of a report: the rules of users, and how states were distinguished.
 use crate::frontier::count_of;
 use crate::modes::{Mode, make_objects, mode_of};
 use crate::naming::{names_later, names_message};
 use crate::report::Report;
-use crate::watching::Progress;
+use crate::watching::{Progress, Stop};
 use mcs_explore_questions::{Asked, Rule};
 use mcs_explore_script::{AskedLine, UserScript};
 use mcs_lab_inspect::Page;
@@ -29,7 +29,7 @@ fn line_of_later(script: &UserScript) -> u64 {
     0
 }
 
-/// Puts that something is told apart, since a line names one.
+/// Appends which line makes the search distinguish something, since it names one.
 fn put_apart(page: &mut Page, what: &str, line: u64) {
     page.put(b"; ");
     page.put(what.as_bytes());
@@ -38,7 +38,7 @@ fn put_apart(page: &mut Page, what: &str, line: u64) {
     page.put(b" names one");
 }
 
-/// Puts how states were told apart, where that is not by all but the numbers of messages.
+/// Appends how states were distinguished, unless it is by all but message numbers.
 fn put_mode(page: &mut Page, script: &UserScript, is_exact: bool) {
     if is_exact {
         return page.put(b"; exact");
@@ -66,7 +66,7 @@ fn rule_text(rule: Rule) -> &'static str {
     }
 }
 
-/// Returns the rule that a line sets, if it sets one.
+/// Returns the rule that a line sets, if any.
 pub fn rule_set(line: &AskedLine) -> Option<&'static str> {
     match &line.asked {
         Asked::Ruled { rule } => Some(rule_text(*rule)),
@@ -82,7 +82,7 @@ pub fn rule_set(line: &AskedLine) -> Option<&'static str> {
     }
 }
 
-/// Puts the rules of users that the lines of a script set.
+/// Appends the rules that the lines of a script set for users.
 fn put_rules(page: &mut Page, asked: &[AskedLine]) {
     for rule in asked.iter().filter_map(rule_set) {
         page.put(b"; ");
@@ -90,14 +90,21 @@ fn put_rules(page: &mut Page, asked: &[AskedLine]) {
     }
 }
 
-/// Puts the first line: how much was found, whether that is the whole, and by which rules.
+/// Appends why a search was stopped; nothing if a budget of states or turns ended it.
+fn put_stop(page: &mut Page, stop: Option<Stop>) {
+    match stop {
+        Some(Stop::Clock) => page.put(b"by the clock "),
+        Some(Stop::Memory) => page.put(b"for lack of memory "),
+        None => {}
+    }
+}
+
+/// Appends the first line: how much was found, whether the search was whole, and by which rules.
 pub fn put_head<P: Progress>(page: &mut Page, report: &Report<'_, P>) {
     let orders = report.findings.orders;
     if !orders.is_whole() {
         page.put(b"stopped ");
-        if orders.is_stopped() {
-            page.put(b"by the clock ");
-        }
+        put_stop(page, orders.watch().stop());
         page.put(b"at ");
     }
     page.count(orders.states());

@@ -19,7 +19,7 @@ use mcs_types::{ObjId, Status};
 use std::alloc::Global;
 use std::io::Write;
 
-/// Puts the beginning of an object: a thread, and its name where it has one.
+/// Appends the beginning of an object: a thread, and its name where it has one.
 fn put_thread(page: &mut Page, names: &Names, thread: ObjId) {
     page.put(b"{\"thread\":");
     page.quoted_word(&Token::Name(thread));
@@ -37,7 +37,7 @@ fn status_text(status: Option<Status>) -> &'static str {
     }
 }
 
-/// Puts what a user waits in or for as a member, if it waits.
+/// Appends what a user waits in or for as a member, if it waits.
 fn put_waits(page: &mut Page, names: &Names, status: Option<Status>) {
     match status {
         Some(Status::Queued(queue)) => {
@@ -56,7 +56,7 @@ fn put_waits(page: &mut Page, names: &Names, status: Option<Status>) {
     }
 }
 
-/// Puts the slot that names an object as a member, where a user made it.
+/// Appends the slot that names an object as a member, if a user made it.
 fn put_origin(page: &mut Page, origin: Origin) {
     match origin {
         Origin::Boot | Origin::NoSlot => {}
@@ -70,7 +70,7 @@ fn put_origin(page: &mut Page, origin: Origin) {
     }
 }
 
-/// Puts a user of an end.
+/// Appends a user that is not done at an end, as a JSON object.
 fn put_standing<P: Progress>(
     page: &mut Page,
     findings: &Findings<'_, P>,
@@ -90,7 +90,7 @@ fn put_standing<P: Progress>(
     page.put(b"}");
 }
 
-/// Puts the name of a script as a member.
+/// Appends the name of a script as a member.
 fn put_script(page: &mut Page, alloc: Global, name: ScriptName) {
     page.key("script");
     page.put(b"\"");
@@ -98,7 +98,7 @@ fn put_script(page: &mut Page, alloc: Global, name: ScriptName) {
     page.put(b"\"");
 }
 
-/// Puts the lines of steps of a script as a list.
+/// Appends the lines of steps of a script as a list.
 fn put_lines(page: &mut Page, script: &[u8]) {
     let mut is_first = true;
     page.put(b"[");
@@ -112,8 +112,8 @@ fn put_lines(page: &mut Page, script: &[u8]) {
     page.put(b"]");
 }
 
-/// Puts the entry that is given again after it was answered on the way to what is seen as a member,
-/// if one is.
+/// Appends as a member the entry that is repeated after its answer on the way to what is seen, if
+/// any.
 fn put_again<P: Progress>(
     page: &mut Page,
     findings: &Findings<'_, P>,
@@ -128,7 +128,7 @@ fn put_again<P: Progress>(
     Ok(())
 }
 
-/// Puts the script of what is seen and its steps as the last members of an object.
+/// Appends the script of what is seen and its number of turns as the last members of an object.
 fn put_steps<P: Progress>(
     page: &mut Page,
     report: &Report<'_, P>,
@@ -144,7 +144,7 @@ fn put_steps<P: Progress>(
     Ok(())
 }
 
-/// Puts a kind of end.
+/// Appends a kind of end.
 fn put_end<P: Progress>(
     page: &mut Page,
     report: &Report<'_, P>,
@@ -171,7 +171,7 @@ fn put_end<P: Progress>(
     )
 }
 
-/// Puts all kinds of ends as a member, and writes each of them.
+/// Appends all kinds of ends as a member, and writes each of them.
 fn put_ends<P: Progress, W: Write>(
     to: &mut W,
     page: &mut Page,
@@ -191,7 +191,7 @@ fn put_ends<P: Progress, W: Write>(
     Ok(())
 }
 
-/// Puts users that are stuck from one state on.
+/// Appends users that are stuck from the same state on.
 fn put_stuck<P: Progress>(
     page: &mut Page,
     report: &Report<'_, P>,
@@ -221,7 +221,7 @@ fn put_stuck<P: Progress>(
     )
 }
 
-/// Puts all users that are stuck as a member.
+/// Appends all users that are stuck as a member.
 fn put_all_stuck<P: Progress>(page: &mut Page, report: &Report<'_, P>) -> Result<(), LabFault> {
     page.key("stuck");
     page.put(b"[");
@@ -233,7 +233,7 @@ fn put_all_stuck<P: Progress>(page: &mut Page, report: &Report<'_, P>) -> Result
     Ok(())
 }
 
-/// Puts the answers of an entry as a member.
+/// Appends the answers of an entry as a member.
 fn put_answers<P: Progress>(page: &mut Page, findings: &Findings<'_, P>, entry: &AnsweredEntry) {
     page.key("answers");
     page.put(b"[");
@@ -252,7 +252,7 @@ fn put_answers<P: Progress>(page: &mut Page, findings: &Findings<'_, P>, entry: 
     page.put(b"]");
 }
 
-/// Puts an entry.
+/// Appends an entry.
 fn put_entry<P: Progress>(page: &mut Page, findings: &Findings<'_, P>, entry: &AnsweredEntry) {
     let event = entry.event;
     put_thread(page, &findings.script.names, event.thread);
@@ -266,7 +266,7 @@ fn put_entry<P: Progress>(page: &mut Page, findings: &Findings<'_, P>, entry: &A
     page.put(b"}");
 }
 
-/// Puts all entries as a member.
+/// Appends all entries as a member.
 fn put_entries<P: Progress>(page: &mut Page, report: &Report<'_, P>) {
     page.key("entries");
     page.put(b"[");
@@ -277,7 +277,7 @@ fn put_entries<P: Progress>(page: &mut Page, report: &Report<'_, P>) {
     page.put(b"]");
 }
 
-/// Puts a question.
+/// Appends a question.
 fn put_question<P: Progress>(
     page: &mut Page,
     findings: &Findings<'_, P>,
@@ -299,7 +299,7 @@ fn put_question<P: Progress>(
     Ok(())
 }
 
-/// Puts all questions as a member.
+/// Appends all questions as a member.
 fn put_questions<P: Progress>(page: &mut Page, report: &Report<'_, P>) -> Result<(), LabFault> {
     page.key("questions");
     page.put(b"[");
@@ -311,7 +311,7 @@ fn put_questions<P: Progress>(page: &mut Page, report: &Report<'_, P>) -> Result
     Ok(())
 }
 
-/// Puts the rules of users that the lines of a script set as a member, where there are some.
+/// Appends the rules of users that the lines of a script set as a member, if there are some.
 fn put_rules_member(page: &mut Page, asked: &[AskedLine]) {
     if !asked.iter().any(|line| rule_set(line).is_some()) {
         return;
@@ -325,7 +325,7 @@ fn put_rules_member(page: &mut Page, asked: &[AskedLine]) {
     page.put(b"]");
 }
 
-/// Puts how much was found as the first members.
+/// Appends how much was found as the first members.
 fn put_counts<P: Progress>(page: &mut Page, findings: &Findings<'_, P>) {
     let orders = findings.orders;
     page.put(b"{\"states\":");
@@ -337,7 +337,7 @@ fn put_counts<P: Progress>(page: &mut Page, findings: &Findings<'_, P>) {
     put_rules_member(page, &findings.script.asked);
 }
 
-/// Puts the names of the objects of the boot as a member, where there are some.
+/// Appends the names of the objects of the boot as a member, if there are some.
 fn put_names<P: Progress>(page: &mut Page, findings: &Findings<'_, P>) {
     let script = findings.script;
     let mut member = NamesMember::new(&script.names, false);
@@ -347,7 +347,7 @@ fn put_names<P: Progress>(page: &mut Page, findings: &Findings<'_, P>) {
     member.end(page);
 }
 
-/// Puts the verdict as the last members, in a word and as the text has it.
+/// Appends the verdict as the last members, in a word and as the text has it.
 fn put_verdicts<P: Progress>(page: &mut Page, report: &Report<'_, P>) -> Result<(), LabFault> {
     let mut verdict = Page::new(report.findings.alloc)?;
     put_verdict(&mut verdict, report);

@@ -1,4 +1,4 @@
-//! Where questions fail: in a state, or by a turn.
+//! Where questions fail: in a state, or at a turn.
 ghost use Rattle.std.specs.Prelude.{◌≡◌, ◌==◌, ◌&&◌, ◌+◌, ◌-◌, ◌<◌, ◌^◌, nat_le, nat_lt, option_copied, length};
 ghost use Rattle.std.specs.List.{list_all, list_any};
 ghost use Rattle.mcs_book.specs.History.{line_of_number, log_of};
@@ -19,14 +19,15 @@ use mcs_trace::{Line, spell_answer, spell_record};
 use mcs_turns::Position;
 use mcs_types::Status;
 
-/// Where something is seen: in a state, or by a turn from it.
+/// Where something is seen: in a state, or at a turn from it.
 #[derive(Clone, Copy, Drop)]
 pub struct Sighting {
     pub place: usize,
     pub turn: Option<Turn>,
 }
 
-/// How many entries a user at a position was answered for good, by the status of its thread.
+/// Returns how many entries of a user at a position have a final answer, by the status of its
+/// thread.
 pub fn answered_by(status: Option<Status>, place: Position) -> usize
     ensures { result ≡ answered_by status place }
 {
@@ -36,7 +37,7 @@ pub fn answered_by(status: Option<Status>, place: Position) -> usize
     }
 }
 
-/// How many entries of a user were answered for good.
+/// Returns how many entries of a user have a final answer.
 pub fn answered(users: &Users, walk: &Walk<PlainLines>, user: usize) -> usize
     ensures { result ≡ answered users.now walk.now user }
 {
@@ -49,8 +50,8 @@ pub fn answered(users: &Users, walk: &Walk<PlainLines>, user: usize) -> usize
     }
 }
 
-/// Returns whether a user at a position gave fewer entries than this, by the status of its thread:
-/// one that waits has given its last.
+/// Returns whether a user at a position gave fewer entries than `number`, by the status of its
+/// thread: a blocked one has given its last.
 fn gave_fewer(status: Option<Status>, place: Position, number: usize) -> bool
     ensures { result ≡ nat_lt (given_by status place) number }
 {
@@ -60,8 +61,7 @@ fn gave_fewer(status: Option<Status>, place: Position, number: usize) -> bool
     }
 }
 
-/// Returns whether a user at a position, by the status of its thread, has not come to the end of a
-/// span.
+/// Returns whether a user at a position is before the end of a span, by the status of its thread.
 fn is_before_end(span: Span, status: Option<Status>, place: Position) -> bool
     ensures { result ≡ nat_lt (ended_by span.until status place) span.to }
 {
@@ -78,7 +78,7 @@ fn is_within(span: Span, status: Option<Status>, place: Position) -> bool
     span.from <= answered_by(status, place) && is_before_end(span, status, place)
 }
 
-/// Returns whether the user in a place is in a span.
+/// Returns whether the user at an index is in a span.
 fn is_at(users: &Users, walk: &Walk<PlainLines>, span: Span, user: usize) -> bool
     ensures { result ≡ is_at users.now walk.now span user }
 {
@@ -101,7 +101,7 @@ fn is_in(users: &Users, walk: &Walk<PlainLines>, span: Span) -> bool
     }
 }
 
-/// Returns whether a number is the next one.
+/// Returns whether the entry at index `number` is the one with number `next`, counted from 1.
 fn is_next(number: usize, next: usize) -> bool
     ensures { result ≡ (next == number + 1) }
 {
@@ -118,8 +118,8 @@ fn gives(users: &Users, turn: Turn, event: Event) -> bool
     }
 }
 
-/// Returns whether a user at a position gave so many entries: of a program that waits, up to that
-/// with which it waits.
+/// Returns whether a user at a position gave this many entries: a program that waits, up to the one
+/// in which it waits.
 fn gave(place: Position, number: usize) -> bool
     ensures { result ≡ nat_le number (gave_by place) }
 {
@@ -142,7 +142,7 @@ fn has_given(users: &Users, walk: &Walk<PlainLines>, event: Event) -> bool
     }
 }
 
-/// Returns how many messages were sent once this record is added: one more where it is a Sent.
+/// Returns how many messages were sent once this record is added.
 fn with_sent(sent: u128, fact: &KeptRecord<'_>) -> u128
     requires { sent + 1 < 2 ^ 128 }
     ensures { result ≡ sent_with sent fact.now }
@@ -150,7 +150,7 @@ fn with_sent(sent: u128, fact: &KeptRecord<'_>) -> u128
     if fact.is_sent() { sent + 1 } else { sent }
 }
 
-/// How many messages a line sent.
+/// Returns how many messages a line sent.
 fn sent_in(line: &BookLine<'_>) -> u128
     ensures { result ≡ sent_after 0 line.now.records }
 {
@@ -164,7 +164,7 @@ fn sent_in(line: &BookLine<'_>) -> u128
     sent
 }
 
-/// How many messages were sent before the newest line.
+/// Returns how many messages were sent before the newest line.
 fn sent_before(kernel: &Kernel<PlainLines>, line: &BookLine<'_>) -> u128
     ensures few { result < 2 ^ 32 }
     ensures sent { result ≡ next_message (log_of kernel.now) - sent_after 0 line.now.records }
@@ -189,8 +189,8 @@ fn is_line(pattern: &[u8], line: &[u8]) -> bool
     is_match(pattern, bare(line))
 }
 
-/// Returns whether a pattern matches the line of a record of a line of the book, before which so
-/// many messages were sent.
+/// Returns whether a pattern matches the text of a record of a line of the book, before which
+/// `before` messages were sent.
 fn has_record(text: &mut Line, line: &BookLine<'_>, before: u128, pattern: &[u8]) -> bool
     requires { before + 2 ^ 64 < 2 ^ 128 }
     ensures { result ≡ list_any (is_line pattern.now) (record_lines before line.now.records) }
@@ -209,8 +209,8 @@ fn has_record(text: &mut Line, line: &BookLine<'_>, before: u128, pattern: &[u8]
     false
 }
 
-/// Returns whether a pattern matches one of the lines of a trace for a line of the book, before
-/// which so many messages were sent.
+/// Returns whether a pattern matches a line of the trace for a line of the book, before which
+/// `before` messages were sent.
 fn has_match(text: &mut Line, line: &BookLine<'_>, before: u128, pattern: &[u8]) -> bool
     requires { before + 2 ^ 64 < 2 ^ 128 }
     ensures { result ≡ list_any (is_line pattern.now) (lines_told before line.now) }
@@ -219,7 +219,7 @@ fn has_match(text: &mut Line, line: &BookLine<'_>, before: u128, pattern: &[u8])
     is_line(pattern, text.text()) || has_record(text, line, before, pattern)
 }
 
-/// Returns whether a pattern matches one of the lines of a trace for the newest line.
+/// Returns whether a pattern matches a line of the trace for the newest line of the book.
 fn tells(text: &mut Line, kernel: &Kernel<PlainLines>, pattern: &[u8]) -> bool
     ensures { result ≡ list_any (is_line pattern.now) (told_last kernel.now) }
 {
@@ -246,7 +246,7 @@ fn fails_in(users: &Users, asked: &Asked, walk: &Walk<PlainLines>) -> bool
     }
 }
 
-/// Returns whether a question fails by a turn that led to a state.
+/// Returns whether a question fails at a turn that led to a state.
 fn fails_by(
     text: &mut Line,
     users: &Users,
@@ -265,7 +265,8 @@ fn fails_by(
     }
 }
 
-/// Returns whether a question fails in a state, or by the turn that led there.
+/// Returns whether a question fails at the turn that led to this state; without a turn, whether it
+/// fails in the state.
 fn fails(
     text: &mut Line,
     users: &Users,
@@ -281,7 +282,7 @@ fn fails(
     }
 }
 
-/// Returns where a question failed first, with one look more.
+/// Returns where a question failed first, after looking at one more state or turn.
 fn judged(
     text: &mut Line,
     users: &Users,
@@ -302,7 +303,7 @@ fn judged(
     }
 }
 
-/// Judges all questions by one look.
+/// Judges all questions in one more state or turn.
 pub fn judge(
     text: &mut Line,
     users: &Users,

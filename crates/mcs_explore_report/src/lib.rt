@@ -1,5 +1,5 @@
-//! The report on all orders of a script of users: its ends, the answers of its entries, and what is
-//! asked of them.
+//! The report on all orders of a script of users: its ends, the answers of its entries, and the
+//! results of its questions.
 //!
 //! ```text
 //! source ── mcs_explore_script ──> the boot, the users, their entries, the questions (`#!`)
@@ -51,4 +51,4 @@ pub use slots::{Origin, Slot};
 pub use stuck_users::first_stuck;
 pub use text::{put_asked, put_event, put_standing};
 pub use verdicts::{Grounds, Verdict, verdict_on};
-pub use watching::{Progress, Quiet, Watched};
+pub use watching::{Progress, Quiet, Stop, Watched};

@@ -1,5 +1,5 @@
-//! Whether entries of users can be answered yet: a user that cannot go on is stuck, also where
-//! others go on for ever (own).
+//! Whether entries of users can be answered yet: a user that cannot continue is stuck, even if
+//! others continue for ever (own).
 ghost use Rattle.std.specs.Prelude.{true, ◌≡◌, ◌++◌, ◌∷◌, [], IfOk, IfNone, IfSome, OnOk, Some, ◌≤◌, cond, length, not, position, replicate, slice_get};
 ghost use Rattle.std.specs.List.{list_any};
 ghost use Rattle.mcs_explore_search.specs.Reaching.{AreWithin};
@@ -17,8 +17,8 @@ use mcs_types::Answer;
 use std::alloc::Global;
 use std::marker::Model;
 
-/// What a search notes of a question: whether it was settled in each state, and from which places a
-/// turn answered it.
+/// What a search notes of a `live` question: whether it was settled in each state, and from which
+/// states a turn answered it.
 #[derive(Drop)]
 pub struct Notes {
     settled: Vec<bool>,
@@ -36,7 +36,7 @@ impl Model for Notes {
     } };
 }
 
-/// Returns whether a user comes to an entry again.
+/// Returns whether a user comes to an entry again after its answer.
 fn comes_again(list: &UserList, entry: usize) -> bool
     ensures { result ≡ comes_again list.now.again entry }
 {
@@ -46,7 +46,7 @@ fn comes_again(list: &UserList, entry: usize) -> bool
     }
 }
 
-/// Returns whether a user that was answered so many entries is done with what is asked for; of an
+/// Returns whether a user with `count` final answers is done with the entry asked about; for an
 /// entry of a program that is not known.
 fn settled_by(list: &UserList, entry: Option<usize>, count: usize) -> bool
     ensures { result ≡ settled_by list.now entry count }
@@ -57,7 +57,7 @@ fn settled_by(list: &UserList, entry: Option<usize>, count: usize) -> bool
     }
 }
 
-/// Returns whether the user of a question is done with it; true where there is no such user.
+/// Returns whether the user of a question is done with it; true if the user does not exist.
 fn is_settled(users: &Users, live: Live, walk: &Walk<PlainLines>) -> bool
     ensures { result ≡ is_settled users.now live walk.now }
 {
@@ -67,7 +67,7 @@ fn is_settled(users: &Users, live: Live, walk: &Walk<PlainLines>) -> bool
     }
 }
 
-/// Returns whether a question is about an entry of a user.
+/// Returns whether a question is about the picked entry.
 fn is_about(live: Live, pick: Pick) -> bool
     ensures { result ≡ is_about live pick }
 {
@@ -78,7 +78,7 @@ fn is_about(live: Live, pick: Pick) -> bool
     pick.user == live.user && is_entry
 }
 
-/// Returns whether what reached a thread is what an entry comes to that is asked about.
+/// Returns whether what reached a thread answers the waiting entry that the question is about.
 fn is_mailed(users: &Users, from: &[Position], turn: Turn, live: Live, reached: &Reached) -> bool
     ensures { result ≡ is_mailed users.now from.now turn live reached.now }
 {
@@ -95,7 +95,8 @@ fn is_waits(answer: &Answer) -> bool
     matches!(answer, Answer::Waits)
 }
 
-/// Returns whether one of those that something reached by a turn is asked about.
+/// Returns whether anything that reached a thread at a turn answers the entry that the question is
+/// about.
 fn any_is_mailed(users: &Users, from: &[Position], turn: Turn, live: Live, all: &[Reached]) -> bool
     ensures { result ≡ list_any (is_mailed users.now from.now turn live) all.now }
 {
@@ -111,7 +112,7 @@ fn push_mark(marks: &mut Vec<bool>, mark: bool) -> Result<(), OrdersFault>
     Ok(())
 }
 
-/// Adds a place to the end, where that is wanted.
+/// Adds a place to the end, if that is wanted.
 fn push_place(places: &mut Vec<usize>, place: usize, wanted: bool) -> Result<(), OrdersFault>
     ensures { OnOk result (places.new.items ≡ places.old.items ++ cond wanted (place ∷ []) []) }
 {
@@ -122,7 +123,7 @@ fn push_place(places: &mut Vec<usize>, place: usize, wanted: bool) -> Result<(),
 }
 
 impl Notes {
-    /// Nothing was shown yet.
+    /// Returns notes of no state.
     fn new(alloc: Global) -> Notes
         ensures { result ≡ record { settled = []; answered = [] } }
     {
@@ -132,7 +133,7 @@ impl Notes {
         }
     }
 
-    /// Notes a state. OutOfMemory where memory was refused.
+    /// Notes a state. `OutOfMemory` if an allocation fails.
     fn note_state(
         &mut self,
         users: &Users,
@@ -145,8 +146,8 @@ impl Notes {
         push_mark(&mut self.settled, mark)
     }
 
-    /// Notes a turn from the state in a place, if it answers what is asked about. OutOfMemory where
-    /// memory was refused.
+    /// Notes a turn from the state at an index, if it answers the entry asked about. `OutOfMemory`
+    /// if an allocation fails.
     fn note_turn(&mut self, place: usize, is_answer: bool) -> Result<(), OrdersFault>
         ensures { OnOk result (self.new ≡ record self.old {
           answered = self.old.answered ++ cond is_answer (place ∷ []) [];
@@ -156,8 +157,8 @@ impl Notes {
     }
 }
 
-/// Returns whether a turn from these positions, which brought this to threads, answers an entry
-/// that is asked about: its own, or one that waited.
+/// Returns whether a turn from these positions answers an entry asked about: the entry that it
+/// gives, or a waiting one, by what the turn brings to its thread.
 fn answers(
     users: &Users,
     live: Live,
@@ -172,7 +173,7 @@ fn answers(
     is_own || any_is_mailed(users, from, turn, live, all)
 }
 
-/// No note of so many questions.
+/// Returns empty notes for `count` questions.
 fn no_notes(alloc: Global, count: usize) -> Result<Vec<Notes>, LabFault>
     ensures { IfOk result (λ v. v.items
         ≡ replicate count (record { settled = []; answered = [] })) }
@@ -184,7 +185,7 @@ fn no_notes(alloc: Global, count: usize) -> Result<Vec<Notes>, LabFault>
     Ok(notes)
 }
 
-/// Notes a state of each question.
+/// Notes a state for each question.
 fn note_states(
     notes: &mut Vec<Notes>,
     lives: &[Live],
@@ -202,7 +203,7 @@ fn note_states(
     Ok(())
 }
 
-/// Notes a turn from the state in a place of each question, and what it brought to threads.
+/// Notes for each question a turn from the state at an index, and what it brought to threads.
 fn note_turns(
     notes: &mut Vec<Notes>,
     lives: &[Live],
@@ -225,7 +226,7 @@ fn note_turns(
     Ok(())
 }
 
-/// Questions, and what a search notes of each.
+/// The `live` questions, and what a search notes of each.
 #[derive(Drop)]
 pub struct Lives<'a> {
     lives: &'a [Live],
@@ -241,7 +242,7 @@ impl<'a> Model for Lives<'a> {
 }
 
 impl<'a> Lives<'a> {
-    /// Nothing was shown yet.
+    /// Returns questions with empty notes.
     pub fn new(alloc: Global, lives: &'a [Live]) -> Result<Lives<'a>, LabFault>
         ensures lives { IfOk result (λ l. l.lives ≡ lives.entry.now) }
         ensures notes { IfOk result (λ l. l.notes
@@ -253,7 +254,7 @@ impl<'a> Lives<'a> {
         })
     }
 
-    /// Returns what was noted of the question with this number.
+    /// Returns the notes of the question with this number.
     pub fn notes(&self, number: usize) -> Option<&Notes>
         ensures some { IfSome result (λ n. slice_get self.now.notes number ≡ Some n.now) }
         ensures none { IfNone result (length self.now.notes ≤ number) }
@@ -261,7 +262,7 @@ impl<'a> Lives<'a> {
         self.notes.get(number)
     }
 
-    /// Notes a state of each question. OutOfMemory where memory was refused.
+    /// Notes a state for each question. `OutOfMemory` if an allocation fails.
     pub fn see_state(&mut self, users: &Users, walk: &Walk<PlainLines>) -> Result<(), OrdersFault>
         ensures lives { self.new.lives ≡ self.old.lives }
         ensures notes { OnOk result (AreNotedOn (with_sight users.now walk.now)
@@ -270,8 +271,8 @@ impl<'a> Lives<'a> {
         note_states(&mut self.notes, self.lives, users, walk)
     }
 
-    /// Notes a turn from the state in a place of each question, and what it brought to threads.
-    /// OutOfMemory where memory was refused.
+    /// Notes for each question a turn from the state at an index, and what it brought to threads.
+    /// `OutOfMemory` if an allocation fails.
     pub fn see_turn(
         &mut self,
         users: &Users,
@@ -299,7 +300,7 @@ impl<'a> Lives<'a> {
     }
 }
 
-/// Marks a place, if there is one.
+/// Marks the state at an index, if there is one.
 fn mark_place(marks: &mut Vec<bool>, place: usize)
     ensures { marks.new.items ≡ with_mark place marks.old.items }
 {
@@ -308,7 +309,7 @@ fn mark_place(marks: &mut Vec<bool>, place: usize)
     }
 }
 
-/// Marks these places.
+/// Marks the states at these indices.
 fn mark_places(marks: &mut Vec<bool>, places: &[usize])
     ensures { marks.new.items ≡ with_marks places.now marks.old.items }
 {
@@ -317,7 +318,7 @@ fn mark_places(marks: &mut Vec<bool>, places: &[usize])
     }
 }
 
-/// Adds so many marks to the end.
+/// Appends `count` marks.
 fn push_marks(marks: &mut Vec<bool>, count: usize) -> Result<(), LabFault>
     ensures { OnOk result (marks.new.items ≡ marks.old.items ++ replicate count true) }
 {
@@ -327,8 +328,8 @@ fn push_marks(marks: &mut Vec<bool>, count: usize) -> Result<(), LabFault>
     Ok(())
 }
 
-/// Returns marks of so many places: where a question is settled or a turn answers it, and where
-/// nothing is known yet.
+/// Returns a mark for each of `states` states: set where the question is settled, where a turn
+/// answers it, and where nothing is known yet.
 fn marks_of(alloc: Global, states: usize, notes: &Notes) -> Result<Vec<bool>, LabFault>
     ensures { IfOk result (λ v. v.items ≡ first_marks states notes.now) }
 {
@@ -340,16 +341,15 @@ fn marks_of(alloc: Global, states: usize, notes: &Notes) -> Result<Vec<bool>, La
     Ok(marks)
 }
 
-/// Returns the first place that is not marked.
+/// Returns the index of the first state that is not marked.
 fn first_unmarked(marks: &[bool]) -> Option<usize>
     ensures { result ≡ position not marks.now }
 {
     marks.iter().position(|mark| !*mark)
 }
 
-/// Returns the first place from which no edges lead on to one where a question is settled or a turn
-/// answers it, by what was noted of it; None where they do from each. OutOfMemory where memory was
-/// refused.
+/// Returns the index of the first state from which no path leads to one where the question is
+/// settled or a turn answers it; None if there is none. `OutOfMemory` if an allocation fails.
 pub fn stuck_at<W: Watch>(
     alloc: Global,
     orders: &Orders<'_, W>,

@@ -13,7 +13,7 @@ use mcs_types::{Answer, Badge, Mode, ObjId, Rec};
 use mcs_users::is_send_at;
 use std::alloc::Global;
 
-/// What a taker gets of the message that a line sent last, with a record more.
+/// Returns what a taker would receive of the message last sent in a line, after one more record.
 fn got_with(alloc: Global, got: Option<Answer>, fact: &Rec) -> Result<Option<Answer>, OrdersFault>
     ensures { IfOk result (λ o. o ≡ got_with got fact.now) }
 {
@@ -29,7 +29,7 @@ fn got_with(alloc: Global, got: Option<Answer>, fact: &Rec) -> Result<Option<Ans
     }
 }
 
-/// What reaches a thread that takes this, if the line sent it.
+/// Returns what reaches a thread that takes this message, if the line sent it.
 fn taken(alloc: Global, thread: ObjId, got: &Option<Answer>) -> Result<Option<Reached>, OrdersFault>
     ensures { IfOk result (λ o. o ≡ taken thread got.now) }
 {
@@ -42,7 +42,8 @@ fn taken(alloc: Global, thread: ObjId, got: &Option<Answer>) -> Result<Option<Re
     }
 }
 
-/// What reaches a thread by a record, where a taker gets this of what the line sent last.
+/// Returns what reaches a thread by a record; `got` is what a taker receives of the message last
+/// sent in the line.
 fn reaching(alloc: Global, got: &Option<Answer>, fact: &Rec) -> Result<Option<Reached>, OrdersFault>
     ensures { IfOk result (λ o. o ≡ reaching got.now fact.now) }
 {
@@ -78,7 +79,7 @@ fn reaching(alloc: Global, got: &Option<Answer>, fact: &Rec) -> Result<Option<Re
     }
 }
 
-/// Adds what reached a thread, if something did.
+/// Adds what reached a thread, if anything.
 fn push(all: &mut Vec<Reached>, reached: Option<Reached>) -> Result<(), OrdersFault>
     ensures { OnOk result (all.new.items ≡ all.old.items ++ listed reached) }
 {
@@ -88,7 +89,7 @@ fn push(all: &mut Vec<Reached>, reached: Option<Reached>) -> Result<(), OrdersFa
     Ok(())
 }
 
-/// What reaches threads by a line.
+/// Returns what reaches threads by a line.
 fn reached_by(alloc: Global, line: &Line<'_>) -> Result<Vec<Reached>, OrdersFault>
     ensures { IfOk result (λ v. v.items ≡ reached_from None line.now.records) }
 {
@@ -114,7 +115,8 @@ fn gave_send(users: &Users, user: usize, number: usize) -> bool
     }
 }
 
-/// Returns whether an entry that waited comes to this: that a thread goes on says so of Send alone.
+/// Returns whether this is the answer of a waiting entry: that its thread runs again answers a Send
+/// alone.
 fn comes_to(users: &Users, user: usize, number: usize, answer: &Answer) -> bool
     ensures { result ≡ comes_to users.now user number answer.now }
 {
@@ -124,8 +126,8 @@ fn comes_to(users: &Users, user: usize, number: usize, answer: &Answer) -> bool
     }
 }
 
-/// Returns the number of the entry with which a user waited before a turn of another user, by how
-/// far the users were then.
+/// Returns the number of the entry in which a user waited before a turn of another user, by the
+/// users' positions then.
 fn waiting(from: &[Position], user: usize, turn: Turn) -> Option<usize>
     ensures { result ≡ waiting from.now user turn }
 {
@@ -135,8 +137,7 @@ fn waiting(from: &[Position], user: usize, turn: Turn) -> Option<usize>
     from.get(user)?.waited
 }
 
-/// Returns the entry of a user that waited before a turn and comes to what reached its thread by
-/// it, if there is one.
+/// Returns the waiting entry that is answered by what reached its thread at a turn, if any.
 pub fn mailed_to(users: &Users, from: &[Position], turn: Turn, reached: &Reached) -> Option<Pick>
     ensures { result ≡ mailed_to users.now from.now turn reached.now }
 {
@@ -149,7 +150,7 @@ pub fn mailed_to(users: &Users, from: &[Position], turn: Turn, reached: &Reached
     }
 }
 
-/// Notes what an entry that waited came to, where this reached a thread.
+/// Notes the answer of a waiting entry whose thread this reached.
 fn note_reached(
     answers: &mut Answers,
     users: &Users,
@@ -167,8 +168,7 @@ fn note_reached(
     }
 }
 
-/// Notes what entries that waited came to, where this reached threads: what the newest line
-/// brought.
+/// Notes the answers of waiting entries, by what the newest line brought to their threads.
 pub fn note_mail(
     answers: &mut Answers,
     users: &Users,

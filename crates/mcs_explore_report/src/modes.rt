@@ -1,4 +1,5 @@
-//! How states are told apart: by all that decides what comes, or by less where less is asked.
+//! How states are distinguished: by all that decides the future, or by less if the questions allow
+//! it.
 ghost use Rattle.std.specs.Prelude.{◌≡◌};
 ghost use Rattle.std.specs.List.{list_any};
 ghost use Rattle.mcs_types.specs.Changes.{makes_object};
@@ -10,19 +11,19 @@ use mcs_explore_script::AskedLine;
 use mcs_kernel::Boot;
 use mcs_types::Entry;
 
-/// How a search tells states apart.
+/// How a search distinguishes states.
 #[derive(Clone, Copy, PartialEq, Eq, Debug)]
 pub enum Mode {
-    /// By all that decides what comes, of the numbers of messages only where they are numbered:
-    /// then what is told of a whole search is proved.
+    /// By all that decides the future, and by message numbers only if `numbered`. Then the claims
+    /// about whole searches are proved.
     Proved { numbered: bool },
-    /// By the slots that name objects, and by no number of a message. That states with one key have
-    /// one future is tested only.
+    /// With objects named by slots, and without message numbers. That states with one key have the
+    /// same future is only tested.
     Canonical,
 }
 
 impl Mode {
-    /// Returns whether states that it does not tell apart are proved to have one future.
+    /// Returns whether states with one key are proved to have the same future.
     pub fn is_proved(self) -> bool
         ensures { result ≡ is_proved self }
     {
@@ -32,7 +33,7 @@ impl Mode {
         }
     }
 
-    /// Returns whether it tells the numbers of messages apart.
+    /// Returns whether it distinguishes message numbers.
     pub fn are_numbered(self) -> bool
         ensures { result ≡ are_numbered self }
     {
@@ -71,8 +72,8 @@ fn any_later(boot: &Boot, asked: &[AskedLine]) -> bool
     asked.iter().any(|line| names_later(boot, &line.asked))
 }
 
-/// How a search tells states apart, which may be asked to be exact. By itself it leaves out what no
-/// question names: the numbers of messages, and, where users make objects, the serials of these.
+/// Returns how a search distinguishes states. Unless it has to be exact, it leaves out what no
+/// question names: message numbers, and, if users make objects, the serials of these.
 pub fn mode_of(boot: &Boot, users: &Users, asked: &[AskedLine], is_exact: bool) -> Mode
     ensures { result ≡ mode_of boot.now users.now asked.now is_exact }
 {

@@ -49,11 +49,11 @@ fn has_message(pattern: &[u8]) -> bool
     false
 }
 
-/// Returns whether a question names a message. Only lines of a trace name one, which patterns of
-/// `never` match: answers name none.
+/// Returns whether a question names a message. Only patterns of `never` can, since they match lines
+/// of a trace; answers name no message.
 pub fn names_message(asked: &Asked) -> bool
     ensures names { result ≡ names_message asked.now }
-    // where it names none, states that differ in the numbers of messages alone decide it
+    // if it names none, states that differ only in message numbers give it the same result
     ensures decided { result ≡ false → IsDecided false asked.now }
 {
     match asked {

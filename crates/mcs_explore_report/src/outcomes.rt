@@ -1,4 +1,4 @@
-//! What came of questions.
+//! The results of questions.
 ghost use Rattle.std.specs.Prelude.{◌≡◌};
 ghost use Rattle.mcs_explore_report.specs.Outcomes.{fails, holds, missed};
 
@@ -7,11 +7,11 @@ use crate::judging::Sighting;
 /// What no order showed.
 #[derive(Clone, Copy, PartialEq, Eq)]
 pub enum Unseen {
-    /// An answer of an entry.
+    /// An answer of the entry.
     NeverAnswered,
-    /// An entry itself.
+    /// The entry itself.
     NeverGiven,
-    /// What a pattern stands for.
+    /// A line that matches the pattern.
     NothingMatched,
 }
 
@@ -26,11 +26,11 @@ impl Unseen {
     }
 }
 
-/// What came of a question.
+/// The result of a question.
 #[derive(Clone, Copy, PartialEq, Eq)]
 pub enum Outcome {
     Holds,
-    /// It holds, and this says why that is little.
+    /// It holds, but says little, for this reason.
     HoldsSince(Unseen),
     Fails,
     /// A budget ended the search before it was seen.
@@ -38,7 +38,7 @@ pub enum Outcome {
 }
 
 impl Outcome {
-    /// Returns whether it holds, as far as was seen.
+    /// Returns whether it holds so far.
     pub fn holds(self) -> bool
         ensures { result ≡ holds self }
     {
@@ -58,7 +58,7 @@ impl Outcome {
         }
     }
 
-    /// Returns why it is little that it holds, if it is.
+    /// Returns why it says little that it holds, if so.
     pub fn since(self) -> Option<Unseen> {
         match self {
             Outcome::HoldsSince(why) => Some(why),
@@ -76,8 +76,8 @@ impl Outcome {
     }
 }
 
-/// Returns what came of a question that does not hold by what was found, and where that is seen, by
-/// whether all was found.
+/// Returns the result of a question that fails by what was found, and where that is seen;
+/// `is_whole` says whether the search was whole.
 pub fn missed(is_whole: bool, seen: Option<Sighting>) -> Outcome
     ensures { result ≡ missed is_whole seen }
 {

@@ -24,14 +24,14 @@ use mcs_trace::Line;
 use std::alloc::Global;
 use std::io::{Read, Write};
 
-/// What came of a search.
+/// The result of a search.
 #[derive(Clone, Copy, PartialEq, Eq, Debug)]
 pub enum Explored {
-    /// All orders were seen: what is asked holds, and none ends in a deadlock.
+    /// All orders were searched: all questions hold, and none ends in a deadlock.
     Holds,
-    /// Something that is asked does not hold, or an order ends in a deadlock.
+    /// A question fails, or an order ends in a deadlock.
     Fails,
-    /// A budget ended the search, and nothing of the kind was seen so far.
+    /// A budget ended the search, and nothing failed so far.
     Stopped,
 }
 
@@ -55,7 +55,7 @@ pub struct Output {
     pub is_json: bool,
 }
 
-/// What is reported of a search.
+/// The contents of the report on a search.
 pub struct Report<'a, P: Progress> {
     pub findings: Findings<'a, P>,
     /// The questions, in the order of their lines.
@@ -65,7 +65,7 @@ pub struct Report<'a, P: Progress> {
     pub is_exact: bool,
 }
 
-// By hand, so that it is a function of its own.
+// Written by hand, so that it is proved once, as a separate function.
 impl<'a, P: Progress> Drop for Report<'a, P> {
     fn drop(self) {
         let Report {
@@ -77,7 +77,7 @@ impl<'a, P: Progress> Drop for Report<'a, P> {
     }
 }
 
-/// Adds what came of the question with a number, if that line asks something that holds or not.
+/// Adds the result of the question with a number, if that line holds or fails.
 fn push_judged<'a, P: Progress>(
     all: &mut Vec<Judged<'a>>,
     findings: &Findings<'a, P>,
@@ -98,7 +98,7 @@ fn push_judged<'a, P: Progress>(
     Ok(())
 }
 
-/// Returns what came of each question. Answers are spelled in this line.
+/// Returns the result of each question. `line` is a buffer for the text of an answer.
 fn all_judged<'a, P: Progress>(
     findings: &Findings<'a, P>,
     line: &mut Line,
@@ -124,8 +124,8 @@ fn all_judged<'a, P: Progress>(
 }
 
 impl<'a, P: Progress> Report<'a, P> {
-    /// Judges all questions by what was found, and returns the report. OutOfMemory where memory was
-    /// refused.
+    /// Judges all questions by the findings, and returns the report. `OutOfMemory` if an allocation
+    /// fails.
     fn new(findings: Findings<'a, P>, is_exact: bool) -> Result<Report<'a, P>, LabFault>
         ensures findings { IfOk result (λ r. r.findings ≡ findings.entry) }
         ensures held { IfOk result (λ r. all_hold r.judged.items ≡ true
@@ -152,8 +152,8 @@ impl<'a, P: Progress> Report<'a, P> {
         })
     }
 
-    /// Returns the script of what is seen in a state, or by a turn from it, behind a comment.
-    /// BookFull and OutOfMemory as for a search.
+    /// Returns the script to a state, or to a turn from it, after a comment. BookFull and
+    /// OutOfMemory as for a search.
     pub fn script_of(&self, comment: &[u8], seen: Sighting) -> Result<Vec<u8>, LabFault>
         ensures { IfOk result (λ text. IsScriptBy self.now.findings.script.now
             (path_of self.now.findings.orders.now.search.map.entries seen.place
@@ -164,7 +164,7 @@ impl<'a, P: Progress> Report<'a, P> {
         script_by(findings.alloc, findings.script, comment, &turns)
     }
 
-    /// Returns how many of the questions hold, as far as was seen.
+    /// Returns how many of the questions hold so far.
     pub fn count_held(&self) -> usize {
         let mut count: usize = 0;
         for judged in self.judged.iter() {
@@ -173,22 +173,22 @@ impl<'a, P: Progress> Report<'a, P> {
         count
     }
 
-    /// Returns whether all questions hold, as far as was seen.
+    /// Returns whether all questions hold so far.
     fn are_held(&self) -> bool
         ensures { result ≡ all_hold self.now.judged.items }
     {
         self.judged.iter().all(|judged| judged.outcome.holds())
     }
 
-    /// Returns whether one of the questions does not.
+    /// Returns whether one of the questions fails.
     fn any_fails(&self) -> bool
         ensures { result ≡ any_fails self.now.judged.items }
     {
         self.judged.iter().any(|judged| judged.outcome.fails())
     }
 
-    /// Returns whether a question does not hold, a user is stuck, or a run ends with a user that is
-    /// not done and may not wait.
+    /// Returns whether a question fails, a user is stuck, or a run ends with a user that is not
+    /// done and may not wait.
     fn has_failure(&self) -> bool
         ensures { result ≡ has_failure self.now.judged.items self.now.findings.places.items
             self.now.findings.script.now.asked.items self.now.findings.ends }
@@ -196,7 +196,7 @@ impl<'a, P: Progress> Report<'a, P> {
         self.any_fails() || !self.findings.are_live() || !self.findings.are_done()
     }
 
-    /// Returns what came of the search.
+    /// Returns the result of the search.
     pub fn explored(&self) -> Explored
         ensures fails { has_failure self.now.judged.items self.now.findings.places.items
             self.now.findings.script.now.asked.items self.now.findings.ends ≡ true
@@ -228,11 +228,10 @@ impl<'a, P: Progress> Report<'a, P> {
     }
 }
 
-/// Goes through all orders of the users of a script, and reports what comes of them: first how many
-/// states were found, then each kind of end, each answer of each entry, and each question, what
-/// fails before what holds, and the verdict last. Each end and each answer is one of a run whose
-/// script is kept. The faults are those of a search and of scripts that are kept; Write where a
-/// write failed.
+/// Searches all orders of the users of a script, and reports the findings: how many states were
+/// found, then failures, each kind of end, each answer of each entry, the questions that hold, and
+/// the verdict. Each end and each answer is one of a run whose script is saved. The faults are
+/// those of a search and of saving scripts; `Write` if a write failed.
 pub fn explore_all<W: Write, S: Saves, P: Progress>(
     alloc: Global,
     script: &UserScript,
@@ -242,10 +241,10 @@ pub fn explore_all<W: Write, S: Saves, P: Progress>(
     saves: &mut S,
     progress: P,
 ) -> Result<Explored, LabFault>
-    // by proved keys: where it holds, all that the script asks is so in each run of its users
+    // proved keys: if it holds, all questions of the script hold in each run of its users
     ensures holds { IfOk result (λ e. e ≡ Explored.Holds
         → IsProvedToHold wanted.is_exact script.now) }
-    // and where it fails, some run shows it
+    // and if it fails, some run shows it
     ensures fails { IfOk result (λ e. e ≡ Explored.Fails
         → IsProvedToFail wanted.is_exact script.now) }
 {
@@ -273,8 +272,7 @@ pub fn explore_all<W: Write, S: Saves, P: Progress>(
     Ok(report.explored())
 }
 
-/// Reads a script of users, goes through all orders, and reports them. The faults are first those
-/// of the script.
+/// Reads a script of users, searches all orders, and reports them. Faults of the script come first.
 pub fn explore_script<R: Read, W: Write + Drop, S: Saves>(
     alloc: Global,
     from: &mut Source<R>,
@@ -283,18 +281,18 @@ pub fn explore_script<R: Read, W: Write + Drop, S: Saves>(
     output: Output,
     saves: &mut S,
 ) -> Result<Explored, ExploreFault>
-    // by proved keys: where it holds, a script was read, and all that it asks is so in each run of
-    // its users
+    // proved keys: if it holds, a script was read, and all its questions hold in each run of its
+    // users
     ensures holds { IfOk result (λ e. e ≡ Explored.Holds → HasReadHolding wanted.is_exact
         (R.remaining from.old.reader) (R.remaining from.new.reader)) }
-    // and where it fails, some run shows it
+    // and if it fails, some run shows it
     ensures fails { IfOk result (λ e. e ≡ Explored.Fails → HasReadFailing wanted.is_exact
         (R.remaining from.old.reader) (R.remaining from.new.reader)) }
 {
     explore_and_tell(alloc, from, to, wanted, output, saves, Quiet)
 }
 
-/// Does the same, and reports how far it is while it goes.
+/// Explores a script as `explore_script` does, and reports its progress.
 pub fn explore_and_tell<R: Read, W: Write + Drop, S: Saves, P: Progress>(
     alloc: Global,
     from: &mut Source<R>,
@@ -304,11 +302,11 @@ pub fn explore_and_tell<R: Read, W: Write + Drop, S: Saves, P: Progress>(
     saves: &mut S,
     progress: P,
 ) -> Result<Explored, ExploreFault>
-    // by proved keys: where it holds, a script was read, and all that it asks is so in each run of
-    // its users
+    // proved keys: if it holds, a script was read, and all its questions hold in each run of its
+    // users
     ensures holds { IfOk result (λ e. e ≡ Explored.Holds → HasReadHolding wanted.is_exact
         (R.remaining from.old.reader) (R.remaining from.new.reader)) }
-    // and where it fails, some run shows it
+    // and if it fails, some run shows it
     ensures fails { IfOk result (λ e. e ≡ Explored.Fails → HasReadFailing wanted.is_exact
         (R.remaining from.old.reader) (R.remaining from.new.reader)) }
 {

@@ -1,4 +1,4 @@
-//! Scripts that are kept: of each kind of end, of stuck users, of questions and of answers.
+//! Saves scripts: for each kind of end, for stuck users, questions and answers.
 ghost use Rattle.mcs_explore_report.specs.Scripts.{IsRunScript};
 
 use crate::judging::Sighting;
@@ -12,25 +12,25 @@ use mcs_lab_check::LabFault;
 use mcs_lab_inspect::Page;
 use std::alloc::{AllocError, Global};
 
-/// The first line of each script that is kept.
+/// The first line of each saved script.
 pub const MARK: &[u8] = b"# by mcslab explore\n";
 
-/// How the names of scripts begin, and how they end.
+/// How the names of saved scripts begin.
 const BEGINNINGS: &[&str] = &["end", "stuck", "question", "answer-"];
 
 const ENDING: &str = ".mcs";
 
-/// Returns whether a file has a name that a script may be kept under.
+/// Returns whether a file name is one for a saved script.
 pub fn is_script_name(name: &str) -> bool {
     name.ends_with(ENDING) && BEGINNINGS.iter().any(|start| name.starts_with(*start))
 }
 
-/// Where scripts are kept.
+/// A place where scripts are saved.
 pub trait Saves {
-    /// Returns whether scripts are kept at all.
+    /// Returns whether scripts are saved at all.
     fn wants(&self) -> bool;
 
-    /// Keeps the script of a run under a name: of the users of a script, from its boot on.
+    /// Saves the script of a run under a name.
     fn save(
         &mut self,
         alloc: Global,
@@ -41,21 +41,21 @@ pub trait Saves {
         requires { IsRunScript script.now text.now };
 }
 
-/// What a script shows, by which it is named.
+/// What a saved script shows, which gives it its name.
 #[derive(Clone, Copy)]
 pub enum ScriptName {
-    /// A kind of end, by its number from 1 on.
+    /// A kind of end, by its number, counted from 1.
     End(usize),
-    /// Users that are stuck, by their number from 1 on.
+    /// Users that are stuck, by their number, counted from 1.
     Stuck(usize),
     /// A question, by its line.
     Question(u64),
-    /// An answer of an entry, by its number from 1 on.
+    /// An answer of an entry, by its number, counted from 1.
     Answer { event: Event, number: usize },
 }
 
 impl ScriptName {
-    /// Returns the name of the file. AllocError where memory was refused.
+    /// Returns the name of the file. `AllocError` if an allocation fails.
     pub fn file_name(self, alloc: Global) -> Result<String, AllocError> {
         match self {
             ScriptName::End(number) => format!(in alloc; "end{number}.mcs"),
@@ -70,14 +70,15 @@ impl ScriptName {
     }
 }
 
-/// Returns a comment with its first line alone. AllocError where memory was refused.
+/// Returns a comment that has only the first line of saved scripts. `AllocError` if an allocation
+/// fails.
 fn new_comment(alloc: Global) -> Result<Page, AllocError> {
     let mut comment = Page::new(alloc)?;
     comment.put(MARK);
     Ok(comment)
 }
 
-/// Keeps the script of what is seen, behind a comment.
+/// Saves the script to what is seen, after a comment.
 fn save<P: Progress, S: Saves>(
     report: &Report<'_, P>,
     saves: &mut S,
@@ -91,7 +92,7 @@ fn save<P: Progress, S: Saves>(
     saves.save(alloc, report.findings.script, name.as_str(), &text)
 }
 
-/// Keeps the scripts of all kinds of ends.
+/// Saves the scripts of all kinds of ends.
 fn save_ends<P: Progress, S: Saves>(report: &Report<'_, P>, saves: &mut S) -> Result<(), LabFault> {
     let findings = &report.findings;
     for index in 0..findings.ends.kinds().len() {
@@ -107,7 +108,7 @@ fn save_ends<P: Progress, S: Saves>(report: &Report<'_, P>, saves: &mut S) -> Re
     Ok(())
 }
 
-/// Keeps the scripts of users that are stuck.
+/// Saves the scripts of stuck users.
 fn save_stuck<P: Progress, S: Saves>(
     report: &Report<'_, P>,
     saves: &mut S,
@@ -123,7 +124,7 @@ fn save_stuck<P: Progress, S: Saves>(
     Ok(())
 }
 
-/// Keeps the scripts of all questions of which something is seen.
+/// Saves the scripts of all questions for which something is seen.
 fn save_questions<P: Progress, S: Saves>(
     report: &Report<'_, P>,
     saves: &mut S,
@@ -140,7 +141,7 @@ fn save_questions<P: Progress, S: Saves>(
     Ok(())
 }
 
-/// Keeps the scripts of all answers of all entries.
+/// Saves the scripts of all answers of all entries.
 fn save_answers<P: Progress, S: Saves>(
     report: &Report<'_, P>,
     saves: &mut S,
@@ -159,7 +160,7 @@ fn save_answers<P: Progress, S: Saves>(
     Ok(())
 }
 
-/// Keeps all scripts, those of answers only where they are wanted.
+/// Saves all scripts, those of answers only on request.
 pub fn save_all<P: Progress, S: Saves>(
     report: &Report<'_, P>,
     saves: &mut S,

@@ -9,7 +9,7 @@ use mcs_trace::{Line, spell};
 use mcs_types::{Answer, Badge, Message};
 use std::alloc::Global;
 
-/// Puts bytes behind a text.
+/// Appends bytes to a text.
 fn put(text: &mut Vec<u8>, bytes: &[u8]) -> Result<(), LabFault>
     ensures { OnOk result (text.new.items ≡ text.old.items ++ bytes.now) }
 {
@@ -17,7 +17,7 @@ fn put(text: &mut Vec<u8>, bytes: &[u8]) -> Result<(), LabFault>
     Ok(())
 }
 
-/// Puts a number behind a text, with a space before it, which is spelled in this line.
+/// Appends a space and a number to a text; `line` is a buffer for its digits.
 fn put_number(text: &mut Vec<u8>, line: &mut Line, number: u64) -> Result<(), LabFault>
     ensures { OnOk result (text.new.items ≡ text.old.items ++ number_text number) }
 {
@@ -26,7 +26,7 @@ fn put_number(text: &mut Vec<u8>, line: &mut Line, number: u64) -> Result<(), La
     put(text, line.text())
 }
 
-/// Puts numbers behind a text.
+/// Appends numbers to a text, each after a space.
 fn put_numbers(text: &mut Vec<u8>, line: &mut Line, numbers: &[u64]) -> Result<(), LabFault>
     ensures { OnOk result (text.new.items ≡ text.old.items ++ flat_map number_text numbers.now) }
 {
@@ -36,7 +36,7 @@ fn put_numbers(text: &mut Vec<u8>, line: &mut Line, numbers: &[u64]) -> Result<(
     Ok(())
 }
 
-/// Puts a message behind a text.
+/// Appends the label and words of a message to a text.
 fn put_message(
     text: &mut Vec<u8>,
     line: &mut Line,
@@ -52,7 +52,7 @@ fn put_message(
     put_numbers(text, line, message.words())
 }
 
-/// Puts a word and a number behind a text.
+/// Appends a word and a number to a text.
 fn put_one(text: &mut Vec<u8>, line: &mut Line, word: &[u8], number: u64) -> Result<(), LabFault>
     ensures { OnOk result (text.new.items
         ≡ text.old.items ++ word.now ++ number_text number) }
@@ -61,7 +61,7 @@ fn put_one(text: &mut Vec<u8>, line: &mut Line, word: &[u8], number: u64) -> Res
     put_number(text, line, number)
 }
 
-/// Puts an answer behind a text, as a trace has it.
+/// Appends an answer to a text, as traces spell it.
 fn put_answer(text: &mut Vec<u8>, line: &mut Line, answer: &Answer) -> Result<(), LabFault>
     ensures { OnOk result (text.new.items ≡ text.old.items ++ said answer.now) }
 {
@@ -75,7 +75,7 @@ fn put_answer(text: &mut Vec<u8>, line: &mut Line, answer: &Answer) -> Result<()
     }
 }
 
-/// Returns the text of an answer, as a trace has it. It is spelled in this line.
+/// Returns the text of an answer, as traces spell it; `line` is a buffer for it.
 pub fn text_of(alloc: Global, line: &mut Line, answer: &Answer) -> Result<Vec<u8>, LabFault>
     ensures { IfOk result (λ text. text.items ≡ said answer.now) }
 {

@@ -1,4 +1,4 @@
-//! Scripts of steps, which show what is reported: of the runs to which turns lead.
+//! The scripts of steps that show what is reported.
 ghost use Rattle.std.specs.Prelude.{◌≡◌, ◌++◌, IfOk, OnOk};
 ghost use Rattle.mcs_turns.specs.Turns.{Going, beginning};
 ghost use Rattle.mcs_explore_search.specs.Paths.{Path};
@@ -14,8 +14,7 @@ use mcs_lab_check::LabFault;
 use mcs_queues::PlainLines;
 use std::alloc::Global;
 
-/// Returns the turns that lead to a state, and the one from it that shows something, where it is
-/// one.
+/// Returns the turns to a state, and the turn from it that shows something, if that is a turn.
 pub fn turns_of<W: Watch>(orders: &Orders<'_, W>, seen: Sighting) -> Result<Vec<Turn>, LabFault>
     ensures { IfOk result (λ turns.
         turns.items ≡ path_of orders.now.search.map.entries seen.place ++ listed seen.turn) }
@@ -38,8 +37,8 @@ fn push(turns: &mut Vec<Turn>, turn: Option<Turn>) -> Result<(), LabFault>
     Ok(())
 }
 
-/// Makes turns again from the boot of a script on, and returns where they lead. BookFull where the
-/// book has 1,000,000 lines, OutOfMemory where memory was refused.
+/// Replays turns from the boot of a script on, and returns the state after them. `BookFull` if the
+/// book has 1,000,000 lines, `OutOfMemory` if an allocation fails.
 pub fn walk_by(
     alloc: Global,
     script: &UserScript,
@@ -57,8 +56,8 @@ pub fn walk_by(
     }
 }
 
-/// Returns the script of these turns, which are made again from the boot, after a comment and the
-/// names. BookFull where the book has 1,000,000 lines, OutOfMemory where memory was refused.
+/// Replays turns from the boot of a script on, and returns their script, after a comment and the
+/// names. `BookFull` if the book has 1,000,000 lines, `OutOfMemory` if an allocation fails.
 pub fn script_by(
     alloc: Global,
     script: &UserScript,

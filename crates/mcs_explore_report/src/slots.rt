@@ -1,5 +1,5 @@
-//! By what an end names objects: those that users made are named by slots, since states that differ
-//! in the numbers of such objects alone are merged.
+//! How an end names objects: those that users made by slots, since states that differ only in the
+//! serials of such objects are merged.
 ghost use Rattle.std.specs.Prelude.{◌≡◌, IfOk, is_none};
 ghost use Rattle.std.specs.List.{list_all};
 ghost use Rattle.mcs_book.specs.History.{log_of};
@@ -23,18 +23,18 @@ pub struct Slot {
     pub index: u8,
 }
 
-/// By what an end names the object that a user waits for.
+/// How an end names the object on which a user is blocked.
 #[derive(Clone, Copy)]
 pub enum Origin {
-    /// By its number: the boot made it, or the user waits for nobody.
+    /// By its number: the boot made it, or the user is not blocked.
     Boot,
-    /// By the first slot with a capability to it, too: a user made it.
+    /// By its number and the first slot with a capability to it: a user made it.
     Slot(Slot),
     /// By its number: a user made it, and no slot has a capability to it.
     NoSlot,
 }
 
-/// Returns an object, where the boot did not make it.
+/// Returns an object, if the boot did not make it.
 fn not_of_boot(boot: &Boot, object: ObjId) -> Option<ObjId>
     ensures { result ≡ not_of_boot boot.now object }
 {
@@ -45,7 +45,7 @@ fn not_of_boot(boot: &Boot, object: ObjId) -> Option<ObjId>
     }
 }
 
-/// Returns the object that a user waits for, where the boot did not make it.
+/// Returns the object on which a user is blocked, if the boot did not make it.
 fn made_object(boot: &Boot, standing: &Standing) -> Option<ObjId>
     ensures { result ≡ made_object boot.now standing.now }
 {
@@ -92,7 +92,7 @@ fn slot_of(boot: &Boot, kernel: &Kernel<PlainLines>, object: ObjId) -> Option<Sl
     None
 }
 
-/// Returns by what an end names the object that a user waits for in a state.
+/// Returns how an end names the object on which a user is blocked.
 fn origin_of(boot: &Boot, kernel: &Kernel<PlainLines>, standing: &Standing) -> Origin
     ensures { IsOrigin boot.now (log_of kernel.now) standing.now result }
 {
@@ -105,8 +105,8 @@ fn origin_of(boot: &Boot, kernel: &Kernel<PlainLines>, standing: &Standing) -> O
     }
 }
 
-/// Returns by what the objects are named that these users wait for in a state. OutOfMemory where
-/// memory was refused.
+/// Returns how the objects are named on which these users are blocked in a state. `OutOfMemory` if
+/// an allocation fails.
 fn origins_in(
     alloc: Global,
     boot: &Boot,
@@ -122,15 +122,15 @@ fn origins_in(
     Ok(origins)
 }
 
-/// Returns whether the boot made all objects that these users wait for.
+/// Returns whether the boot made all objects on which these users are blocked.
 fn are_of_boot(boot: &Boot, standing: &[Standing]) -> bool
     ensures { result ≡ list_all (λ s. is_none (made_object boot.now s)) standing.now }
 {
     standing.iter().all(|one| made_object(boot, one).is_none())
 }
 
-/// Returns by what a kind of end names the objects that its users wait for, in the first state that
-/// is one; nothing where the boot made all of them. BookFull and OutOfMemory as for a search.
+/// Returns how a kind of end names the objects on which its users are blocked, by the first such
+/// state; empty if the boot made all of them. BookFull and OutOfMemory as for a search.
 fn origins_of<W: Watch>(
     alloc: Global,
     script: &UserScript,
@@ -145,7 +145,7 @@ fn origins_of<W: Watch>(
     Ok(origins_in(alloc, &script.boot, walk.kernel(), &end.standing)?)
 }
 
-/// Returns the same of all kinds of ends, in their order.
+/// Returns for all kinds of ends, in their order, how their objects are named.
 pub fn all_origins<W: Watch>(
     alloc: Global,
     script: &UserScript,

@@ -1,4 +1,4 @@
-//! Users that are stuck from some state on: no order answers an entry of them any more (own).
+//! Users that are stuck from some state on: no order answers any of their entries any more (own).
 ghost use Rattle.std.specs.Prelude.{◌≡◌, IfOk, Some, None, length, slice_get};
 ghost use Rattle.mcs_explore_search.specs.Reaching.{AreWithin};
 ghost use Rattle.mcs_explore_report.specs.Outcomes.{count_lives, stuck_of};
@@ -12,22 +12,22 @@ use mcs_explore_script::{AskedLine, Live};
 use mcs_lab_check::LabFault;
 use std::alloc::{AllocError, Global};
 
-/// Users that are stuck from one state on, which is the first such state of each.
+/// Users that are stuck from one state on, which is the first such state for each of them.
 #[derive(Drop)]
 pub struct StuckUsers {
     pub place: usize,
     pub users: Vec<usize>,
 }
 
-/// Returns a state, by its place, as what is seen.
+/// Returns the state at an index as a sighting.
 pub fn seen_at(place: usize) -> Sighting
     ensures { result ≡ record { place = place; turn = None } }
 {
     Sighting { place, turn: None }
 }
 
-/// Returns the first place from which on the user is stuck that was asked about with this number;
-/// None where it is nowhere. OutOfMemory where memory was refused.
+/// Returns the index of the first state from which on the user of the question with this number is
+/// stuck; None if there is none. `OutOfMemory` if an allocation fails.
 pub fn first_stuck<P: Progress>(
     alloc: Global,
     orders: &Orders<'_, Watched<'_, P>>,
@@ -58,8 +58,8 @@ fn count_lives(asked: &[AskedLine], lines: usize) -> usize
     count
 }
 
-/// Returns where the user is stuck first of which a line asks, by the number of that line from 0
-/// on and the first places of all.
+/// Returns the first state from which on the user of a line is stuck, by the number of the line
+/// from 0, and the first states of all users.
 pub fn stuck_of(asked: &[AskedLine], places: &[Option<usize>], number: usize) -> Option<Sighting>
     ensures { result ≡ stuck_of asked.now places.now number }
 {
@@ -69,7 +69,8 @@ pub fn stuck_of(asked: &[AskedLine], places: &[Option<usize>], number: usize) ->
     }
 }
 
-/// Adds a user that is stuck from a place on; the nearest place comes first.
+/// Adds a user that is stuck from the state at index `place` on. The list stays sorted by these
+/// indices.
 fn add_stuck(
     alloc: Global,
     all: &mut Vec<StuckUsers>,
@@ -90,8 +91,8 @@ fn add_stuck(
     Ok(())
 }
 
-/// Returns the users that are stuck and of which no line asks, by the places from which on they
-/// are.
+/// Returns the stuck users that no line `live` names, sorted by the first states from which on they
+/// are stuck.
 pub fn stuck_users(
     alloc: Global,
     asked: &[AskedLine],

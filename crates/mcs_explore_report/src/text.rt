@@ -17,7 +17,7 @@ use mcs_text::Token;
 use mcs_types::Status;
 use std::io::Write;
 
-/// Puts the slot that names an object, where a user made it.
+/// Appends the slot that names an object, if a user made it.
 fn put_origin(page: &mut Page, origin: Origin) {
     match origin {
         Origin::Boot => {}
@@ -32,7 +32,7 @@ fn put_origin(page: &mut Page, origin: Origin) {
     }
 }
 
-/// Puts what a user waits for, or why it does not run.
+/// Appends what a user is blocked on, or why it does not run.
 fn put_status(page: &mut Page, names: &Names, status: Option<Status>, origin: Origin) {
     match status {
         Some(Status::Queued(queue)) => {
@@ -53,7 +53,7 @@ fn put_status(page: &mut Page, names: &Names, status: Option<Status>, origin: Or
     }
 }
 
-/// Puts a user of an end of a script's runs, and its state.
+/// Appends a user of an end, and its state.
 pub fn put_standing(page: &mut Page, script: &UserScript, standing: &Standing, origin: Origin) {
     let names = &script.names;
     let number = standing.entry();
@@ -80,7 +80,7 @@ pub fn put_standing(page: &mut Page, script: &UserScript, standing: &Standing, o
     page.put(b"\n");
 }
 
-/// Puts the entry that is given again after it was answered on the way to what is seen, if one is.
+/// Appends the entry that is repeated after its answer on the way to what is seen, if any.
 fn put_again<P: Progress>(
     page: &mut Page,
     findings: &Findings<'_, P>,
@@ -96,7 +96,7 @@ fn put_again<P: Progress>(
     Ok(())
 }
 
-/// Puts a kind of end, each line behind a mark. OutOfMemory where memory was refused.
+/// Appends a kind of end, each line after a mark. `OutOfMemory` if an allocation fails.
 pub fn put_end<P: Progress>(
     page: &mut Page,
     findings: &Findings<'_, P>,
@@ -123,8 +123,8 @@ pub fn put_end<P: Progress>(
     Ok(())
 }
 
-/// Puts users that are stuck from one state on, behind a mark. OutOfMemory where memory
-/// was refused.
+/// Appends users that are stuck from one state on, after a mark. `OutOfMemory` if an allocation
+/// fails.
 pub fn put_stuck<P: Progress>(
     page: &mut Page,
     findings: &Findings<'_, P>,
@@ -150,7 +150,7 @@ pub fn put_stuck<P: Progress>(
     Ok(())
 }
 
-/// Puts what came of a question.
+/// Appends the result of a question.
 fn put_outcome(page: &mut Page, judged: &Judged<'_>, is_whole: bool) {
     match judged.outcome {
         Outcome::Holds | Outcome::HoldsSince(_) => {
@@ -169,7 +169,7 @@ fn put_outcome(page: &mut Page, judged: &Judged<'_>, is_whole: bool) {
     }
 }
 
-/// Puts a question and the number of its line.
+/// Appends a question and the number of its line.
 pub fn put_asked(page: &mut Page, line: &AskedLine) {
     page.put(b"question at line ");
     page.number(line.line);
@@ -177,7 +177,7 @@ pub fn put_asked(page: &mut Page, line: &AskedLine) {
     page.escaped(line.text.as_slice());
 }
 
-/// Puts a question and what came of it, behind a mark. OutOfMemory where memory was refused.
+/// Appends a question and its result, after a mark. `OutOfMemory` if an allocation fails.
 pub fn put_question<P: Progress>(
     page: &mut Page,
     findings: &Findings<'_, P>,
@@ -197,7 +197,7 @@ pub fn put_question<P: Progress>(
     Ok(())
 }
 
-/// Puts an answer of an entry as a comment.
+/// Appends an answer of an entry as a comment.
 pub fn put_answer(page: &mut Page, names: &Names, event: Event, answer: &Answered) {
     page.put(b"# answer of ");
     page.object(names, event.thread);
@@ -208,7 +208,7 @@ pub fn put_answer(page: &mut Page, names: &Names, event: Event, answer: &Answere
     page.put(b"\n");
 }
 
-/// Puts an entry with its text in the script.
+/// Appends an entry with its text in the script.
 pub fn put_event(page: &mut Page, script: &UserScript, event: Event) {
     page.object(&script.names, event.thread);
     page.put(b" ");
@@ -217,7 +217,7 @@ pub fn put_event(page: &mut Page, script: &UserScript, event: Event) {
     page.escaped(entry_text(script, event.thread, event.number));
 }
 
-/// Puts an entry with its text in the script, and its answers.
+/// Appends an entry with its text in the script, and its answers.
 fn put_entry<P: Progress>(page: &mut Page, findings: &Findings<'_, P>, entry: &AnsweredEntry) {
     put_event(page, findings.script, entry.event);
     page.put(b" ->");
@@ -235,7 +235,7 @@ fn put_entry<P: Progress>(page: &mut Page, findings: &Findings<'_, P>, entry: &A
     page.put(b"\n");
 }
 
-/// Puts a clause of the verdict, behind a semicolon unless it is the first.
+/// Appends a clause of the verdict, after a semicolon unless it is the first.
 fn put_clause(page: &mut Page, is_first: bool, text: &str) {
     if !is_first {
         page.put(b"; ");
@@ -243,7 +243,7 @@ fn put_clause(page: &mut Page, is_first: bool, text: &str) {
     page.put(text.as_bytes());
 }
 
-/// Puts the questions that came out so, a clause for each.
+/// Appends the questions with this result, a clause for each.
 fn put_lines<P: Progress>(
     page: &mut Page,
     report: &Report<'_, P>,
@@ -262,7 +262,7 @@ fn put_lines<P: Progress>(
     }
 }
 
-/// Puts the threads of all users that are stuck, in the order of the users.
+/// Appends the threads of all stuck users, in the order of the users.
 fn put_stuck_threads<P: Progress>(page: &mut Page, findings: &Findings<'_, P>) {
     for (user, list) in findings.script.users.lists().iter().enumerate() {
         if findings.is_stuck(user) {
@@ -272,7 +272,7 @@ fn put_stuck_threads<P: Progress>(page: &mut Page, findings: &Findings<'_, P>) {
     }
 }
 
-/// Puts the verdict where something fails.
+/// Appends the verdict if something fails.
 fn put_failure<P: Progress>(page: &mut Page, report: &Report<'_, P>) {
     page.put(b"FAILS: ");
     let mut is_first = true;
@@ -292,7 +292,7 @@ fn put_failure<P: Progress>(page: &mut Page, report: &Report<'_, P>) {
     put_lines(page, report, Outcome::Fails, is_first, "");
 }
 
-/// Puts how many of the questions hold, if there are some.
+/// Appends how many of the questions hold, if there are any.
 fn put_counts<P: Progress>(page: &mut Page, report: &Report<'_, P>, end: &str) {
     if !report.judged.is_empty() {
         page.put(b"; ");
@@ -304,7 +304,7 @@ fn put_counts<P: Progress>(page: &mut Page, report: &Report<'_, P>, end: &str) {
     }
 }
 
-/// Puts the verdict, without a newline.
+/// Appends the verdict, without a newline.
 pub fn put_verdict<P: Progress>(page: &mut Page, report: &Report<'_, P>) {
     match report.explored() {
         Explored::Fails => put_failure(page, report),
@@ -320,7 +320,7 @@ pub fn put_verdict<P: Progress>(page: &mut Page, report: &Report<'_, P>) {
     }
 }
 
-/// Puts all kinds of ends that are all done, or all others.
+/// Appends all kinds of ends that are all done, or all others.
 fn put_ends<P: Progress>(
     page: &mut Page,
     findings: &Findings<'_, P>,
@@ -338,7 +338,7 @@ fn put_ends<P: Progress>(
     Ok(())
 }
 
-/// Puts all users that are stuck.
+/// Appends all users that are stuck.
 fn put_all_stuck<P: Progress>(page: &mut Page, findings: &Findings<'_, P>) -> Result<(), LabFault> {
     for (index, stuck) in findings.stuck.iter().enumerate() {
         put_stuck(page, findings, "", index.saturating_add(1), stuck)?;
@@ -346,7 +346,7 @@ fn put_all_stuck<P: Progress>(page: &mut Page, findings: &Findings<'_, P>) -> Re
     Ok(())
 }
 
-/// Puts all questions that hold, or all others.
+/// Appends all questions that hold, or all others.
 fn put_questions<P: Progress>(
     page: &mut Page,
     report: &Report<'_, P>,
@@ -360,14 +360,14 @@ fn put_questions<P: Progress>(
     Ok(())
 }
 
-/// Puts all entries, in the order of users and entries.
+/// Appends all entries, in the order of users and entries.
 fn put_entries<P: Progress>(page: &mut Page, report: &Report<'_, P>) {
     for entry in report.entries.iter() {
         put_entry(page, &report.findings, entry);
     }
 }
 
-/// Writes the report as text: first what fails, and the verdict last.
+/// Writes the report as text: failures first, and the verdict last.
 pub fn write_text<P: Progress, W: Write>(
     to: &mut W,
     report: &Report<'_, P>,

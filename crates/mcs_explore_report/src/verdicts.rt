@@ -13,14 +13,14 @@ use mcs_lab_check::LabFault;
 use mcs_trace::Line;
 use std::alloc::Global;
 
-/// Whether a question holds, and where that is seen, if somewhere.
+/// Whether a question holds, and where that is seen, if anywhere.
 #[derive(Clone, Copy, Drop)]
 pub struct Verdict {
     pub holds: bool,
     pub seen: Option<Sighting>,
 }
 
-/// Returns whether a pattern matches an answer, or does not, as is wanted.
+/// Returns whether matching a pattern with an answer gives the wanted result.
 fn is_wanted(
     alloc: Global,
     line: &mut Line,
@@ -34,7 +34,7 @@ fn is_wanted(
     Ok(is_match(pattern, &text) == wanted)
 }
 
-/// Returns where the first answer comes that a pattern matches, or does not, as is wanted.
+/// Returns where the first answer was found for which matching gives the wanted result.
 fn find_answer(
     alloc: Global,
     line: &mut Line,
@@ -56,21 +56,21 @@ fn find_answer(
     Ok(None)
 }
 
-/// Returns whether a user in this state at an end has not been answered an entry.
+/// Returns whether a user, in this state at an end, lacks the answer to an entry.
 fn lacks_one(standing: &Standing, event: Event) -> bool
     ensures { result ≡ lacks_one event standing.now }
 {
     standing.thread.is_same(event.thread) && standing.answered < event.number
 }
 
-/// Returns whether an end with the users in these states comes without an answer of an entry.
+/// Returns whether at an end with these states the answer to an entry is missing.
 fn lacks(standing: &[Standing], event: Event) -> bool
     ensures { result ≡ lacks event standing.now }
 {
     standing.iter().any(|one| lacks_one(one, event))
 }
 
-/// Returns the first end that comes without an answer of an entry.
+/// Returns the first end at which the answer to an entry is missing.
 fn find_end(kinds: &[End], event: Event) -> Option<Sighting>
     ensures { IsEndSearched kinds.now event result }
 {
@@ -96,7 +96,7 @@ fn answers_of<'a>(users: &Users, answers: &'a Answers, event: Event) -> &'a [Tol
     }
 }
 
-/// Where a question failed first, if it did.
+/// Returns where a question failed first, if it did.
 fn failed_at(failed: &[Option<Sighting>], number: usize) -> Option<Sighting>
     ensures { result ≡ failed_at failed.now number }
 {
@@ -106,8 +106,7 @@ fn failed_at(failed: &[Option<Sighting>], number: usize) -> Option<Sighting>
     }
 }
 
-/// Returns the verdict where all answers of an entry are to be of a pattern, by the first that is
-/// not.
+/// Returns the verdict if all answers of an entry have to match, by the first that does not.
 fn all_are(found: Option<Sighting>) -> Verdict
     ensures holds { result.holds ≡ is_none result.seen }
     ensures seen { result.seen ≡ found }
@@ -118,7 +117,7 @@ fn all_are(found: Option<Sighting>) -> Verdict
     }
 }
 
-/// Returns the verdict where some answer is to be of a pattern, by the first that is.
+/// Returns the verdict if some answer has to match, by the first that does.
 fn some_is(found: Option<Sighting>) -> Verdict
     ensures holds { result.holds ≡ is_some result.seen }
     ensures seen { result.seen ≡ found }
@@ -129,8 +128,8 @@ fn some_is(found: Option<Sighting>) -> Verdict
     }
 }
 
-/// Returns where an answer is seen that a pattern does not match, or else the first end without an
-/// answer of the entry.
+/// Returns where an answer does not match a pattern, or else the first end without an answer of the
+/// entry.
 #[tactic(auto, using(crate::proofs::Always::answer_always, crate::proofs::Always::ends_always))]
 fn find_failure(
     alloc: Global,
@@ -159,9 +158,9 @@ pub struct Grounds<'a> {
     pub failed: &'a [Option<Sighting>],
 }
 
-/// Returns the verdict on a question with this number. Answers are spelled in this line; the place
-/// is the first from which the question's user can't go on, if it asks that. OutOfMemory where
-/// memory was refused.
+/// Returns the verdict on a question with this number. `line` is a buffer for the text of an
+/// answer; `stuck` is the first state from which the question's user cannot go on, if it asks that.
+/// `OutOfMemory` if an allocation fails.
 pub fn verdict_on(
     alloc: Global,
     line: &mut Line,

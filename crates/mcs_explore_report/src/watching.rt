@@ -1,4 +1,4 @@
-//! What is kept of a search: its ends, its answers, and where a question failed first.
+//! What a search collects: ends, answers, and where each question failed first.
 ghost use Rattle.std.specs.Prelude.{◌≡◌, [], IfOk, OnOk, None, length, replicate};
 ghost use Rattle.mcs_explore_report.specs.Answers.{no_answers};
 
@@ -16,18 +16,27 @@ use mcs_turns::Position;
 use mcs_types::Answer;
 use std::alloc::Global;
 
-/// To whom it is reported how far a search is.
+/// Why a search was stopped before a budget of states or turns ended it.
+#[derive(Clone, Copy, PartialEq, Eq, Debug)]
+pub enum Stop {
+    /// Its time is over.
+    Clock,
+    /// The memory that is left suffices for the report alone.
+    Memory,
+}
+
+/// Receives the progress of a search.
 pub trait Progress: Drop {
-    /// Hears that one more state is expanded: so many were before it, and so many turns lead to it.
+    /// Receives that one more state was expanded, after `before` others; `depth` turns lead to it.
     fn looked(&mut self, before: usize, depth: usize);
 
-    /// Returns whether the search goes on.
-    fn goes_on(&self) -> bool {
-        true
+    /// Returns why the search stops now; None if it goes on.
+    fn stop(&self) -> Option<Stop> {
+        None
     }
 }
 
-/// Nothing is reported.
+/// Reports no progress.
 #[derive(Drop)]
 pub struct Quiet;
 
@@ -35,7 +44,7 @@ impl Progress for Quiet {
     fn looked(&mut self, _before: usize, _depth: usize) {}
 }
 
-/// What is kept of a search.
+/// What a search collects.
 #[derive(Drop)]
 pub struct Watched<'a, P: Progress> {
     alloc: Global,
@@ -43,14 +52,14 @@ pub struct Watched<'a, P: Progress> {
     text: Box<Line>,
     pub ends: Ends,
     pub answers: Answers,
-    /// For each question where it failed first, as far as that is seen in a turn or a state.
+    /// For each question, where it failed first in a turn or a state.
     pub failed: Vec<Option<Sighting>>,
-    /// What is noted of users that may get stuck.
+    /// What is noted of users that must not get stuck.
     pub lives: Lives<'a>,
     progress: P,
 }
 
-/// No failure of so many questions.
+/// Returns None, that is, no failure yet, for each of `count` questions.
 fn no_failures(alloc: Global, count: usize) -> Result<Vec<Option<Sighting>>, LabFault>
     ensures { IfOk result (λ v. v.items ≡ replicate count None) }
 {
@@ -62,7 +71,7 @@ fn no_failures(alloc: Global, count: usize) -> Result<Vec<Option<Sighting>>, Lab
 }
 
 impl<'a, P: Progress> Watched<'a, P> {
-    /// Before the search.
+    /// Returns what is collected before the search.
     pub fn new(
         alloc: Global,
         users: &Users,
@@ -89,6 +98,11 @@ impl<'a, P: Progress> Watched<'a, P> {
             progress,
         })
     }
+
+    /// Returns why the search was stopped; None if it was not.
+    pub fn stop(&self) -> Option<Stop> {
+        self.progress.stop()
+    }
 }
 
 impl<P: Progress> Watch for Watched<'_, P> {
@@ -97,7 +111,7 @@ impl<P: Progress> Watch for Watched<'_, P> {
     ghost HasSeen = { λ w users shown. HasKept users w.asked.now w.lives.lives shown
         w.ends w.answers w.failed.items w.lives.notes };
 
-    // the questions, and the users that may get stuck
+    // the questions, and the users that must not get stuck
     ghost Aim = { Aims };
 
     ghost aim = { λ w. record { asked = w.asked.now; lives = w.lives.lives } };
@@ -152,6 +166,6 @@ impl<P: Progress> Watch for Watched<'_, P> {
     }
 
     fn goes_on(&self) -> bool {
-        self.progress.goes_on()
+        self.progress.stop().is_none()
     }
 }

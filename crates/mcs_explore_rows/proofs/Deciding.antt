@@ -13,7 +13,7 @@ use Rattle.mcs_book.specs.Chains.{chain_of}
 use Rattle.mcs_book.specs.Contexts.{holder_of, home_of}
 use Rattle.mcs_book.specs.History.{log_of}
 use Rattle.mcs_book.specs.Lookup.{radix_kept}
-use Rattle.mcs_book.specs.Messages.{next_message, open_of}
+use Rattle.mcs_book.specs.Messages.{open_of}
 use Rattle.mcs_book.specs.Replies.{owed_by}
 use Rattle.mcs_book.specs.Slots.{slot, count_of}
 use Rattle.mcs_book.specs.Sound.{Sound}
@@ -25,6 +25,7 @@ use Rattle.mcs_state.specs.Tables.{core_said}
 use Rattle.mcs_turns.specs.declared.position.Pick.{Pick}
 use Rattle.mcs_turns.specs.Due.{choices}
 use Rattle.mcs_turns.specs.Turns.{User, Going, ArePicks, AreInRange}
+use Rattle.mcs_users.specs.Users.{change_slots}
 use Rattle.mcs_turns.proofs.Choices.{length-choices}
 use Rattle.mcs_turns.proofs.RunLaws.{run-legal, run-long}
 use Rattle.mcs_types.specs.declared.record.Letter.{Letter}
@@ -35,11 +36,13 @@ use Rattle.mcs_explore_equivalence.proofs.Answering.{answers-alike, answers-exac
 use Rattle.mcs_explore_equivalence.proofs.Asked.{answer-all}
 use Rattle.mcs_explore_equivalence.specs.Runs.{IsReached, AreClose, AreAlike}
 use Rattle.mcs_explore_equivalence.proofs.Alikes.{picks-there}
-use Rattle.mcs_explore_rows.specs.Numbers.{one, option_numbers, list_numbers, below, id_numbers, cap_numbers, row_numbers, letter_numbers}
-use Rattle.mcs_explore_rows.specs.Rows.{sent_kept, object_at, core_numbers, kind_numbers, object_numbers, count_numbers, rows_of_kind, object_rows, position_numbers, pick_numbers, place_numbers, choice_numbers, HaveSameRows, rows_of, slots_numbers}
+use Rattle.mcs_explore_rows.specs.Numbers.{one, flag_number, option_numbers, list_numbers, below, id_numbers, cap_numbers, row_numbers, letter_numbers}
+use Rattle.mcs_explore_rows.specs.Rows.{cnode_numbers, cnode_rows, head_numbers, sent_kept, object_at, core_numbers, kind_numbers, object_numbers, count_numbers, rows_of_kind, object_rows, position_numbers, pick_numbers, HaveSameRows, rows_of, slots_numbers}
+use Rattle.mcs_explore_rows.proofs.Slots.{SameSlots, runs-slots}
 use Rattle.mcs_explore_rows.proofs.Telling.{parted, Tells, one-told, flag-told, option-told, list-told, below-told, row-told, id-told, cap-told, thread-told, letter-told}
 
--- a message as a key has it: without its number, where the numbers of messages are not told apart
+-- a message as a key has it: without its number, where the numbers of messages are not
+-- distinguished
 abbrev letter_kept : Bool → Letter → Letter
 letter_kept true s = s
 letter_kept false s = unnumbered s
@@ -89,22 +92,46 @@ same-places (x ∷ xs) (y ∷ ys) e h =
     ap (λ z. z ∷ xs) is ∙ ap (λ zs. y ∷ zs) (same-places xs ys shorter (λ i k. h (suc i) (omega (arith, k))))
 
 -- the rows of all objects of a kind tell those of each
-kind-rows : (numbered : Bool) (R S : Log) (k : Kind) → counted (makes_kind k) R ≡ counted (makes_kind k) S → (x y : List (List ℕ)) → rows_of_kind numbered R k ++ x ≡ rows_of_kind numbered S k ++ y
-    → ((i : ℕ) → i < counted (makes_kind k) R → object_numbers numbered R (object_at k i) ≡ object_numbers numbered S (object_at k i)) × (x ≡ y)
-kind-rows numbered R S k e x y h =
-    below-told (λ r. r ∷ []) row-told (λ i. object_numbers numbered R (object_at k i)) (λ i. object_numbers numbered S (object_at k i)) (counted (makes_kind k) R) x y
-    (h ∙ ap (λ n. below (λ i. object_numbers numbered S (object_at k i) ∷ []) n ++ y) (sym e))
+kind-rows : (changing numbered : Bool) (R S : Log) (k : Kind) → counted (makes_kind k) R ≡ counted (makes_kind k) S → (x y : List (List ℕ)) → rows_of_kind changing numbered R k ++ x ≡ rows_of_kind changing numbered S k ++ y
+    → ((i : ℕ) → i < counted (makes_kind k) R → object_numbers changing numbered R (object_at k i) ≡ object_numbers changing numbered S (object_at k i)) × (x ≡ y)
+kind-rows changing numbered R S k e x y h =
+    below-told (λ r. r ∷ []) row-told (λ i. object_numbers changing numbered R (object_at k i)) (λ i. object_numbers changing numbered S (object_at k i)) (counted (makes_kind k) R) x y
+    (h ∙ ap (λ n. below (λ i. object_numbers changing numbered S (object_at k i) ∷ []) n ++ y) (sym e))
 
 -- slots tell each of them
 slots-told : (R S : Log) (c : ObjId) (n : ℕ) → slots_numbers R c n ≡ slots_numbers S c n → (i : ℕ) → i < n → slot R c i ≡ slot S c i
 unfolding slots_numbers
 slots-told R S c n h = (below-told (option_numbers cap_numbers) (option-told cap_numbers cap-told) (slot R c) (slot S c) n [] [] (ap (λ l. l ++ []) h)).0
 
--- two logs with as many objects, whose rows are equal
+-- two logs with as many objects, whose whole rows are equal
 record SameRows (numbered : Bool) (R S : Log) : Type 0 where
   pub counts : (k : Kind) → counted (makes_kind k) R ≡ counted (makes_kind k) S
   pub sent : sent_kept numbered R ≡ sent_kept numbered S
-  pub rows : (k : Kind) (i : ℕ) → i < counted (makes_kind k) R → object_numbers numbered R (object_at k i) ≡ object_numbers numbered S (object_at k i)
+  pub rows : (k : Kind) (i : ℕ) → i < counted (makes_kind k) R → object_numbers true numbered R (object_at k i) ≡ object_numbers true numbered S (object_at k i)
+
+-- objects have the same heads where slots stay
+same-head : (R S : Log) → SameSlots R S → (o : ObjId) → head_numbers true R o ≡ head_numbers true S o
+same-head R S same o = ap (λ b. flag_number b ∷ count_of R o ∷ []) (same.there o) ∙ ap (λ n. flag_number (is_alive S o) ∷ n ∷ []) (same.held o)
+
+-- so whole rows are equal where those are that leave heads out
+whole-row : (changing numbered : Bool) (R S : Log) → (changing ≡ false → SameSlots R S) → (o : ObjId)
+    → object_numbers changing numbered R o ≡ object_numbers changing numbered S o → object_numbers true numbered R o ≡ object_numbers true numbered S o
+whole-row true numbered R S fixed o h = h
+whole-row false numbered R S fixed o h =
+    ap (λ l. l ++ kind_numbers numbered R o.kind o) (same-head R S (fixed refl) o) ∙ ap (λ l. head_numbers true S o ++ l) h
+
+-- slots that stay are the same numbers
+same-below : (f g : ℕ → List ℕ) → ((i : ℕ) → f i ≡ g i) → (n : ℕ) → below f n ≡ below g n
+same-below f g h zero = refl
+same-below f g h (suc n) = ap (λ l. l ++ f n) (same-below f g h n) ∙ ap (λ l. below g n ++ l) (h n)
+
+same-slots : (R S : Log) → SameSlots R S → (c : ObjId) (n : ℕ) → slots_numbers R c n ≡ slots_numbers S c n
+unfolding slots_numbers
+same-slots R S same c n = same-below (λ i. option_numbers cap_numbers (slot R c i)) (λ i. option_numbers cap_numbers (slot S c i)) (λ i. ap (option_numbers cap_numbers) (same.slots c i)) n
+
+-- and so are CNodes
+same-cnode : (R S : Log) → SameSlots R S → (c : ObjId) → cnode_numbers R c ≡ cnode_numbers S c
+same-cnode R S same c = ap (λ f. one (radix_kept f) ++ slots_numbers R c 256) (same.forms c) ∙ ap (λ l. one (radix_kept (form_of S c)) ++ l) (same-slots R S same c 256)
 
 -- what holds of each kind
 each-kind : (P : Kind → Type 0) → P kind.CNode → P kind.Thread → P kind.Endpoint → P kind.Notification → P kind.Reply → P kind.Context → (k : Kind) → P k
@@ -115,8 +142,22 @@ each-kind P a b c d e f kind.Notification = d
 each-kind P a b c d e f kind.Reply = e
 each-kind P a b c d e f kind.Context = f
 
-same-rows : (numbered : Bool) (R S : Log) → count_numbers numbered R ≡ count_numbers numbered S → object_rows numbered R ≡ object_rows numbered S → SameRows numbered R S
-same-rows numbered R S counts rows =
+-- the CNodes have the same rows, as these tell or since slots stay, and so have the others
+record SameCNodes (numbered : Bool) (R S : Log) (x y : List (List ℕ)) : Type 0 where
+  pub rows : (i : ℕ) → i < counted (makes_kind kind.CNode) R → object_numbers true numbered R (object_at kind.CNode i) ≡ object_numbers true numbered S (object_at kind.CNode i)
+  pub others : x ≡ y
+
+same-cnodes : (changing numbered : Bool) (R S : Log) → (changing ≡ false → SameSlots R S) → counted (makes_kind kind.CNode) R ≡ counted (makes_kind kind.CNode) S
+    → (x y : List (List ℕ)) → cnode_rows changing numbered R ++ x ≡ cnode_rows changing numbered S ++ y → SameCNodes numbered R S x y
+same-cnodes true numbered R S fixed counts x y h = let both = kind-rows true numbered R S kind.CNode counts x y h in record { rows = both.0; others = both.1 }
+same-cnodes false numbered R S fixed counts x y h = record {
+  rows = λ i low. whole-row false numbered R S fixed (object_at kind.CNode i) (same-cnode R S (fixed refl) (object_at kind.CNode i));
+  others = h;
+}
+
+same-rows : (changing numbered : Bool) (R S : Log) → (changing ≡ false → SameSlots R S) → count_numbers numbered R ≡ count_numbers numbered S
+    → object_rows changing numbered R ≡ object_rows changing numbered S → SameRows numbered R S
+same-rows changing numbered R S fixed counts rows =
     let sent = parted _ _ _ _ counts in
     let cnodes = parted _ _ _ _ sent.1 in
     let threads = parted _ _ _ _ cnodes.1 in
@@ -124,16 +165,19 @@ same-rows numbered R S counts rows =
     let notifications = parted _ _ _ _ endpoints.1 in
     let replies = parted _ _ _ _ notifications.1 in
     let contexts = parted _ _ _ _ replies.1 in
-    let a = kind-rows numbered R S kind.CNode cnodes.0 _ _ rows in
-    let b = kind-rows numbered R S kind.Thread threads.0 _ _ a.1 in
-    let c = kind-rows numbered R S kind.Endpoint endpoints.0 _ _ b.1 in
-    let d = kind-rows numbered R S kind.Notification notifications.0 _ _ c.1 in
-    let e = kind-rows numbered R S kind.Reply replies.0 _ _ d.1 in
-    let f = kind-rows numbered R S kind.Context contexts.0 [] [] (ap (λ l. l ++ []) e.1) in
+    let a = same-cnodes changing numbered R S fixed cnodes.0 _ _ rows in
+    let b = kind-rows changing numbered R S kind.Thread threads.0 _ _ a.others in
+    let c = kind-rows changing numbered R S kind.Endpoint endpoints.0 _ _ b.1 in
+    let d = kind-rows changing numbered R S kind.Notification notifications.0 _ _ c.1 in
+    let e = kind-rows changing numbered R S kind.Reply replies.0 _ _ d.1 in
+    let f = kind-rows changing numbered R S kind.Context contexts.0 [] [] (ap (λ l. l ++ []) e.1) in
+    let whole = whole-row changing numbered R S fixed in
     record {
       counts = each-kind (λ k. counted (makes_kind k) R ≡ counted (makes_kind k) S) cnodes.0 threads.0 endpoints.0 notifications.0 replies.0 contexts.0;
       sent = sent.0;
-      rows = each-kind (λ k. (i : ℕ) → i < counted (makes_kind k) R → object_numbers numbered R (object_at k i) ≡ object_numbers numbered S (object_at k i)) a.0 b.0 c.0 d.0 e.0 f.0;
+      rows = each-kind (λ k. (i : ℕ) → i < counted (makes_kind k) R → object_numbers true numbered R (object_at k i) ≡ object_numbers true numbered S (object_at k i)) a.rows
+          (λ i low. whole (object_at kind.Thread i) (b.0 i low)) (λ i low. whole (object_at kind.Endpoint i) (c.0 i low)) (λ i low. whole (object_at kind.Notification i) (d.0 i low))
+          (λ i low. whole (object_at kind.Reply i) (e.0 i low)) (λ i low. whole (object_at kind.Context i) (f.0 i low));
     }
 
 -- what the row of an object has besides what there is of its kind
@@ -145,7 +189,7 @@ record SameObject (numbered : Bool) (R S : Log) (o : ObjId) : Type 0 where
 same-object : (numbered : Bool) (R S : Log) → Sound R → SameRows numbered R S → (o : ObjId) → was_made R o ≡ true → SameObject numbered R S o
 same-object numbered R S sound same o made =
     let at : object_at o.kind (o.serial - 1) ≡ o = ap (λ n. record { kind = o.kind; serial = n }) (back (made-serial R o sound made).0) in
-    let is : object_numbers numbered R o ≡ object_numbers numbered S o = subst (λ x. object_numbers numbered R x ≡ object_numbers numbered S x) at (same.rows o.kind (o.serial - 1) (low (made-serial R o sound made))) in
+    let is : object_numbers true numbered R o ≡ object_numbers true numbered S o = subst (λ x. object_numbers true numbered R x ≡ object_numbers true numbered S x) at (same.rows o.kind (o.serial - 1) (low (made-serial R o sound made))) in
     let flags = parted _ _ _ _ is in
     let counts = parted _ _ _ _ flags.1 in
     record { there = flag-told (is_alive R o) (is_alive S o) flags.0; held = counts.0; rest = counts.1 }
@@ -218,7 +262,7 @@ module _ (numbered : Bool) (R S : Log) (sound : Sound R) (same : SameRows number
     slots = λ c i is low. (cnode c is).1 i low;
   }
 
--- where numbers are told apart they are the same too
+-- where numbers are distinguished they are the same too
 answer-exact : (R S : Log) → Sound R → SameRows true R S → AnswerAlike R S
 answer-exact R S sound same = record {
   counts = but.counts;
@@ -254,29 +298,34 @@ logs-by false R S left right same = answers-alike R S left right (answer-all R S
 
 -- lists of one length, of which each place is told, are equal
 same-told : {A : Type 0} (f : A → List ℕ) → Tells f → (xs ys : List A) (n : ℕ) → length xs ≡ n → length ys ≡ n
-    → below (λ i. option_numbers f (slice_get xs i)) n ≡ below (λ i. option_numbers f (slice_get ys i)) n → xs ≡ ys
+    → ((i : ℕ) → i < n → option_numbers f (slice_get xs i) ≡ option_numbers f (slice_get ys i)) → xs ≡ ys
 same-told f t xs ys n left right is =
-    let each = below-told (option_numbers f) (option-told f t) (slice_get xs) (slice_get ys) n [] [] (ap (λ l. l ++ []) is) in
-    same-places xs ys (left ∙ sym right) (λ i k. each.0 i (subst (λ m. i < m) left k))
+    same-places xs ys (left ∙ sym right) (λ i k. alone (option_numbers f) (option-told f t) (slice_get xs i) (slice_get ys i) (is i (subst (λ m. i < m) left k)))
 
 -- the parts of equal rows
 record SameParts (numbered : Bool) (users : List User) (g h : Going) (ks js : List (List Pick)) : Type 0 where
   pub counts : count_numbers numbered (log_of g.book) ≡ count_numbers numbered (log_of h.book)
-  pub places : place_numbers users g ≡ place_numbers users h
-  pub choices : choice_numbers g ks ≡ choice_numbers h js
-  pub objects : object_rows numbered (log_of g.book) ≡ object_rows numbered (log_of h.book)
+  pub places : (i : ℕ) → i < length users → option_numbers position_numbers (slice_get g.places i) ≡ option_numbers position_numbers (slice_get h.places i)
+  pub choices : (i : ℕ) → i < g.book.boot.cores
+      → option_numbers (list_numbers pick_numbers) (slice_get (choices ks g.stale) i) ≡ option_numbers (list_numbers pick_numbers) (slice_get (choices js h.stale) i)
+  pub objects : object_rows (change_slots users) numbered (log_of g.book) ≡ object_rows (change_slots users) numbered (log_of h.book)
 
-same-parts : (numbered : Bool) (users : List User) (g h : Going) (ks js : List (List Pick)) → rows_of numbered users g ks ≡ rows_of numbered users h js → SameParts numbered users g h ks js
-same-parts numbered users g h ks js rows =
+same-parts : (numbered : Bool) (users : List User) (g h : Going) (ks js : List (List Pick)) → g.book.boot.cores ≡ h.book.boot.cores → rows_of numbered users g ks ≡ rows_of numbered users h js → SameParts numbered users g h ks js
+same-parts numbered users g h ks js cores rows =
     let counts = parted _ _ _ _ rows in
-    let places = parted _ _ _ _ counts.1 in
-    let choices = parted _ _ _ _ places.1 in
-    record { counts = counts.0; places = places.0; choices = choices.0; objects = choices.1 }
+    let places = below-told (λ r. r ∷ []) row-told (λ i. option_numbers position_numbers (slice_get g.places i)) (λ i. option_numbers position_numbers (slice_get h.places i)) (length users) _ _ counts.1 in
+    let entered = below-told (λ r. r ∷ []) row-told (λ i. option_numbers (list_numbers pick_numbers) (slice_get (choices ks g.stale) i)) (λ i. option_numbers (list_numbers pick_numbers) (slice_get (choices js h.stale) i))
+    g.book.boot.cores _ (object_rows (change_slots users) numbered (log_of h.book))
+    (places.1 ∙ ap (λ n. below (λ i. option_numbers (list_numbers pick_numbers) (slice_get (choices js h.stale) i) ∷ []) n ++ object_rows (change_slots users) numbered (log_of h.book)) (sym cores)) in
+    record { counts = counts.0; places = places.0; choices = entered.0; objects = entered.1 }
 
 -- two runs of one boot and users that have equal rows are alike
 module _ (numbered : Bool) (users : List User) (boot : Boot) (whole : IsFaultless boot) (range : AreInRange users) (g h : Going) (left : IsReached users boot g) (right : IsReached users boot h) (rows : HaveSameRows numbered users g h) where
   parts : (ks js : List (List Pick)) → ArePicks users g ks → ArePicks users h js → SameParts numbered users g h ks js
-  parts ks js are bre = same-parts numbered users g h ks js ((rows.so ks are).so js bre)
+  parts ks js are bre =
+      let long = run-long users boot left.turns g left.run in
+      let wide = run-long users boot right.turns h right.run in
+      same-parts numbered users g h ks js (ap (λ (b : Boot). b.cores) (long.kept ∙ sym wide.kept)) ((rows.so ks are).so js bre)
 
   some : SameParts numbered users g h rows.picks (rows.so rows.picks rows.are).picks
   some = let other = rows.so rows.picks rows.are in parts rows.picks other.picks rows.are other.are
@@ -287,7 +336,8 @@ module _ (numbered : Bool) (users : List User) (boot : Boot) (whole : IsFaultles
       let wide = run-long users boot right.turns h right.run in
       let one_sound : Sound (log_of g.book) = legal-sound g.book (run-legal users boot whole range left.turns g left.run) in
       let other_sound : Sound (log_of h.book) = legal-sound h.book (run-legal users boot whole range right.turns h right.run) in
-      let same = same-rows numbered (log_of g.book) (log_of h.book) some.counts some.objects in
+      let fixed : change_slots users ≡ false → SameSlots (log_of g.book) (log_of h.book) = λ none. runs-slots users boot none left.turns right.turns g h left.run right.run in
+      let same = same-rows (change_slots users) numbered (log_of g.book) (log_of h.book) fixed some.counts some.objects in
       record {
         left = left;
         right = right;
@@ -301,7 +351,7 @@ module _ (numbered : Bool) (users : List User) (boot : Boot) (whole : IsFaultles
       let wide = run-long users boot right.turns h right.run in
       let both = parts ks ks are (picks-there numbered users boot g h close ks are) in
       same-told (list_numbers pick_numbers) (list-told pick_numbers pick-told) (choices ks g.stale) (choices ks h.stale) boot.cores (length-choices ks g.stale ∙ long.stale) (length-choices ks h.stale ∙ wide.stale)
-      (ap (λ (b : Boot). below (λ i. option_numbers (list_numbers pick_numbers) (slice_get (choices ks g.stale) i)) b.cores) (sym long.kept) ∙ both.choices ∙ ap (λ (b : Boot). below (λ i. option_numbers (list_numbers pick_numbers) (slice_get (choices ks h.stale) i)) b.cores) wide.kept)
+      (λ i low. both.choices i (subst (λ (b : Boot). i < b.cores) (sym long.kept) low))
 
 pub rows-alike : (numbered : Bool) (users : List User) (boot : Boot) → IsFaultless boot → AreInRange users → (g h : Going) → IsReached users boot g → IsReached users boot h → HaveSameRows numbered users g h → AreAlike numbered users boot g h
 rows-alike numbered users boot whole range g h left right rows = record {

@@ -1,5 +1,5 @@
 -- Rows that stay at their numbers, and the rows that numbers name.
-use Rattle.std.specs.Prelude.{ℕ, zero, suc, ◌+◌, ◌≡◌, List, [], ◌∷◌, ◌++◌, Some, map, position, slice_get, get_or, Bool, true, Result, Ok, Err, false, nat_eq, Vec, option_map, if◌then◌else◌}
+use Rattle.std.specs.Prelude.{ℕ, zero, suc, ◌+◌, ◌≡◌, List, [], ◌∷◌, ◌++◌, Some, map, position, slice_get, get_or, Bool, true, Result, Ok, Err, false, nat_eq, option_map, if◌then◌else◌}
 use Rattle.std.specs.List.{list_any}
 use Rattle.std.proofs.Common.{refl, ap, sym, ◌∙◌, subst, arith}
 use Rattle.std.proofs.lemmas.List.{append_assoc, append-nil, map-append}
@@ -13,6 +13,7 @@ use Rattle.mcs_book.specs.Logs.{Log}
 use Rattle.mcs_book.specs.Slots.{slot}
 use Rattle.mcs_explore_rows.specs.Numbers.{below, cap_numbers, option_numbers}
 use Rattle.mcs_turns.specs.Turns.{User, Going}
+use Rattle.mcs_explore_rows.specs.declared.hashed.Hashed.{Hashed}
 use Rattle.mcs_explore_rows.specs.Rows.{HaveSameRows, IsKey, rows_of, slots_numbers}
 use Rattle.mcs_explore_rows.specs.Naming.{Adds, Keeps, Names}
 use Rattle.mcs_explore_rows.proofs.Bytes.{coded-one}
@@ -84,13 +85,13 @@ key-one numbered met users g h bytes a b = record {
   };
 }
 
--- the numbers of a row
-abbrev pub items_of : {S : Type 0} → Vec ℕ S → List ℕ
-items_of v = v.items
+-- the numbers of a row that was met
+abbrev pub row_items : Hashed → List ℕ
+row_items h = h.row.items
 
 -- whether two rows have the same numbers
-abbrev pub same_items : {S : Type 0} → Vec ℕ S → Vec ℕ S → Bool
-same_items v w = pointwise nat_eq v.items w.items
+abbrev pub same_rows : Hashed → Hashed → Bool
+same_rows a b = pointwise nat_eq a.row.items b.row.items
 
 -- a row that is equal to one of the set
 pub stands : {A : Type 0} (f : A → List ℕ) (keys : List A) (n : ℕ) (k : A) (row : List ℕ) → slice_get keys n ≡ Some k → pointwise nat_eq row (f k) ≡ true → slice_get (map f keys) n ≡ Some row
@@ -138,26 +139,13 @@ keeps-then old middle new h k = λ n r at. k n r (h n r at)
 pub adds-none : (met : List (List ℕ)) (a : List ℕ) → Adds met a met a []
 adds-none met a = λ rows named. named ∙ ap (map (λ (r : List ℕ). Some r)) (sym (append-nil rows))
 
--- three rows and others after them, from no number on
-pub named-from : (m0 m1 m2 m3 m4 : List (List ℕ)) (k0 k1 k2 k3 k4 : List ℕ) (x y z : List ℕ) (rest : List (List ℕ)) → k0 ≡ []
-    → Adds m0 k0 m1 k1 (x ∷ []) → Adds m1 k1 m2 k2 (y ∷ []) → Adds m2 k2 m3 k3 (z ∷ []) → Adds m3 k3 m4 k4 rest → Names m4 k4 (x ∷ y ∷ z ∷ rest)
-named-from m0 m1 m2 m3 m4 k0 k1 k2 k3 k4 x y z rest none a b c d =
-    d (x ∷ y ∷ z ∷ []) (c (x ∷ y ∷ []) (b (x ∷ []) (a [] (ap (map (slice_get m0)) none))))
-
--- numbers of one more, after those of all below n
-pub numbers-next : (row after : List ℕ) (f : ℕ → List ℕ) (n : ℕ) → after ≡ row ++ f n → row ≡ below f n → after ≡ below f (n + 1)
-numbers-next row after f n e h = e ∙ ap (λ l. l ++ f n) h ∙ sym (below-next f n)
-
--- three rows and others that are known otherwise
-pub key-from : (m0 m1 m2 m3 m4 : List (List ℕ)) (k0 k1 k2 k3 k4 : List ℕ) (x y z : List ℕ) (rest : List (List ℕ)) (x' y' z' : List ℕ) (rest' : List (List ℕ))
-    → x ≡ x' → y ≡ y' → z ≡ z' → rest ≡ rest' → k0 ≡ []
-    → Adds m0 k0 m1 k1 (x ∷ []) → Adds m1 k1 m2 k2 (y ∷ []) → Adds m2 k2 m3 k3 (z ∷ []) → Adds m3 k3 m4 k4 rest → Names m4 k4 (x' ∷ y' ∷ z' ∷ rest')
-key-from m0 m1 m2 m3 m4 k0 k1 k2 k3 k4 x y z rest x' y' z' rest' ex ey ez er none a b c d =
-    named-from m0 m1 m2 m3 m4 k0 k1 k2 k3 k4 x y z rest none a b c d
-    ∙ ap (λ r. Some r ∷ map (λ (q : List ℕ). Some q) (y ∷ z ∷ rest)) ex
-    ∙ ap (λ r. Some x' ∷ Some r ∷ map (λ (q : List ℕ). Some q) (z ∷ rest)) ey
-    ∙ ap (λ r. Some x' ∷ Some y' ∷ Some r ∷ map (λ (q : List ℕ). Some q) rest) ez
-    ∙ ap (λ rs. Some x' ∷ Some y' ∷ Some z' ∷ map (λ (q : List ℕ). Some q) rs) er
+-- a row and others after it, from no number on
+pub key-from : (m0 m1 m2 m3 m4 : List (List ℕ)) (k0 k1 k2 k3 k4 : List ℕ) (x x' : List ℕ) (ys zs rest rest' : List (List ℕ)) → x ≡ x' → rest ≡ rest' → k0 ≡ []
+    → Adds m0 k0 m1 k1 (x ∷ []) → Adds m1 k1 m2 k2 ys → Adds m2 k2 m3 k3 zs → Adds m3 k3 m4 k4 rest → Names m4 k4 (x' ∷ (ys ++ (zs ++ rest')))
+key-from m0 m1 m2 m3 m4 k0 k1 k2 k3 k4 x x' ys zs rest rest' ex er none a b c d =
+    let others : Adds m1 k1 m4 k4 (ys ++ (zs ++ rest)) = adds-then m1 m2 m4 k1 k2 k4 ys (zs ++ rest) b (adds-then m2 m3 m4 k2 k3 k4 zs rest c d) in
+    let named : Names m4 k4 (x ∷ (ys ++ (zs ++ rest))) = others (x ∷ []) (a [] (ap (map (slice_get m0)) none)) in
+    subst (λ (r : List ℕ). Names m4 k4 (r ∷ (ys ++ (zs ++ rest')))) ex (subst (λ (rs : List (List ℕ)). Names m4 k4 (x ∷ (ys ++ (zs ++ rs)))) er named)
 
 -- no slot of a CNode
 pub slots-none : (R : Log) (c : ObjId) → slots_numbers R c 0 ≡ []

@@ -1,4 +1,5 @@
 pub mod Bytes
+pub mod Hashing
 pub mod Naming
 pub mod Numbers
 pub mod Rows

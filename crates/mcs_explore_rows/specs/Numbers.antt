@@ -22,7 +22,7 @@ abbrev pub flag_number : Bool → ℕ
 flag_number false = 0
 flag_number true = 1
 
--- a 0 where there is none, and else a 1 before it
+-- a 0 if there is none, and else a 1 before it
 abbrev pub option_numbers : {A : Type 0} → (A → List ℕ) → Option A → List ℕ
 option_numbers f None = 0 ∷ []
 option_numbers f (Some x) = 1 ∷ f x
@@ -70,7 +70,7 @@ block_numbers (OnReply reply) = 1 ∷ id_numbers reply
 abbrev pub row_numbers : ThreadRow → List ℕ
 row_numbers r = (r.maximum.0 ∷ r.priority.0 ∷ mode_number r.mode ∷ cap_numbers r.root) ++ (option_numbers block_numbers r.block ++ option_numbers id_numbers r.notification)
 
--- the number of a message as a key has it: 0, where the numbers of messages are not told apart
+-- the number of a message as a key has it: 0, where the numbers of messages are not distinguished
 abbrev pub number_kept : Bool → Letter → ℕ
 number_kept true l = l.number
 number_kept false l = 0

@@ -1,5 +1,5 @@
 -- The rows of a state: all that decides what a run can do from there on (own).
-use Rattle.std.specs.Prelude.{ℕ, ◌+◌, ◌≡◌, Bool, true, false, List, [], ◌∷◌, ◌++◌, Option, length, slice_get}
+use Rattle.std.specs.Prelude.{ℕ, ◌+◌, ◌≡◌, Bool, true, false, List, [], ◌∷◌, ◌++◌, length, slice_get}
 use Rattle.mcs_types.specs.declared.id.ObjId.{ObjId}
 use Rattle.mcs_types.specs.declared.id.CoreId.{CoreId}
 use Rattle.mcs_types.specs.declared.id.Kind.{Kind}
@@ -22,6 +22,7 @@ use Rattle.mcs_turns.specs.declared.position.Position.{Position}
 use Rattle.mcs_turns.specs.declared.position.Pick.{Pick}
 use Rattle.mcs_turns.specs.Due.{choices, with_picks}
 use Rattle.mcs_turns.specs.Turns.{User, Going, ArePicks}
+use Rattle.mcs_users.specs.Users.{change_slots}
 use Rattle.mcs_explore_rows.specs.Bytes.{coded}
 use Rattle.mcs_explore_rows.specs.Naming.{Names}
 use Rattle.mcs_explore_rows.specs.Numbers.{one, flag_number, option_numbers, list_numbers, below, id_numbers, cap_numbers, row_numbers, letter_numbers}
@@ -51,12 +52,13 @@ slots_numbers R c n = below (λ i. option_numbers cap_numbers (slot R c i)) n
 abbrev pub cnode_numbers : Log → ObjId → List ℕ
 cnode_numbers R c = one (radix_kept (form_of R c)) ++ slots_numbers R c 256
 
--- how many messages were sent, as a key has it: 0, where the numbers of messages are not told apart
+-- how many messages were sent, as a key has it: 0, where the numbers of messages are not
+-- distinguished
 abbrev pub sent_kept : Bool → Log → ℕ
 sent_kept true R = next_message R
 sent_kept false R = 0
 
--- what is kept of a thread, and its message that nobody has received
+-- what is kept of a thread, and its message that no thread has received
 abbrev pub thread_numbers : Bool → Log → ObjId → List ℕ
 thread_numbers numbered R t = option_numbers row_numbers (row_said R t) ++ option_numbers (letter_numbers numbered) (open_of R t)
 
@@ -77,9 +79,15 @@ kind_numbers numbered R kind.Notification o = notification_numbers R o
 kind_numbers numbered R kind.Reply o = reply_numbers R o
 kind_numbers numbered R kind.Context o = context_numbers R o
 
--- whether an object is there, how many slots hold a capability to it, and what there is of it
-abbrev pub object_numbers : Bool → Log → ObjId → List ℕ
-object_numbers numbered R o = (flag_number (is_alive R o) ∷ count_of R o ∷ []) ++ kind_numbers numbered R o.kind o
+-- whether an object is there, and how many slots hold a capability to it, where users change slots;
+-- else all states have what the boot made
+abbrev pub head_numbers : Bool → Log → ObjId → List ℕ
+head_numbers true R o = flag_number (is_alive R o) ∷ count_of R o ∷ []
+head_numbers false R o = []
+
+-- the same, and what there is of an object of its kind
+abbrev pub object_numbers : Bool → Bool → Log → ObjId → List ℕ
+object_numbers changing numbered R o = head_numbers changing R o ++ kind_numbers numbered R o.kind o
 
 -- how many messages were sent, and how many objects of each kind were made
 abbrev pub count_numbers : Bool → Log → List ℕ
@@ -87,13 +95,18 @@ count_numbers numbered R = sent_kept numbered R ∷ counted (makes_kind kind.CNo
     ∷ counted (makes_kind kind.Notification) R ∷ counted (makes_kind kind.Reply) R ∷ counted (makes_kind kind.Context) R ∷ []
 
 -- a row for each object of a kind that was made
-abbrev pub rows_of_kind : Bool → Log → Kind → List (List ℕ)
-rows_of_kind numbered R k = below (λ i. object_numbers numbered R (object_at k i) ∷ []) (counted (makes_kind k) R)
+abbrev pub rows_of_kind : Bool → Bool → Log → Kind → List (List ℕ)
+rows_of_kind changing numbered R k = below (λ i. object_numbers changing numbered R (object_at k i) ∷ []) (counted (makes_kind k) R)
 
--- the rows of all objects
-abbrev pub object_rows : Bool → Log → List (List ℕ)
-object_rows numbered R = rows_of_kind numbered R kind.CNode ++ (rows_of_kind numbered R kind.Thread ++ (rows_of_kind numbered R kind.Endpoint
-    ++ (rows_of_kind numbered R kind.Notification ++ (rows_of_kind numbered R kind.Reply ++ rows_of_kind numbered R kind.Context))))
+-- the rows of the CNodes, where users change slots; else all states have those of the boot
+abbrev pub cnode_rows : Bool → Bool → Log → List (List ℕ)
+cnode_rows true numbered R = rows_of_kind true numbered R kind.CNode
+cnode_rows false numbered R = []
+
+-- the rows of all objects, those of CNodes only where users change slots
+abbrev pub object_rows : Bool → Bool → Log → List (List ℕ)
+object_rows changing numbered R = cnode_rows changing numbered R ++ (rows_of_kind changing numbered R kind.Thread ++ (rows_of_kind changing numbered R kind.Endpoint
+    ++ (rows_of_kind changing numbered R kind.Notification ++ (rows_of_kind changing numbered R kind.Reply ++ rows_of_kind changing numbered R kind.Context))))
 
 -- the position of a user, and the words that it keeps
 abbrev pub position_numbers : Position → List ℕ
@@ -102,22 +115,23 @@ position_numbers p = p.next ∷ p.saved.a ∷ p.saved.b ∷ p.saved.c ∷ p.save
 abbrev pub pick_numbers : Pick → List ℕ
 pick_numbers k = k.user ∷ k.number ∷ []
 
--- the positions of the users
-abbrev pub place_numbers : List User → Going → List ℕ
-place_numbers users g = below (λ i. option_numbers position_numbers (slice_get g.places i)) (length users)
+-- a row for the position of each user
+abbrev pub place_rows : List User → Going → List (List ℕ)
+place_rows users g = below (λ i. option_numbers position_numbers (slice_get g.places i) ∷ []) (length users)
 
 -- what a core may enter that has these picks, with its stale picks
 abbrev pub choice_list_numbers : List Pick → List Pick → List ℕ
 choice_list_numbers picks stale = list_numbers pick_numbers (with_picks picks stale)
 
--- what each core may enter, where the cores have these picks
-abbrev pub choice_numbers : Going → List (List Pick) → List ℕ
-choice_numbers g picks = below (λ i. option_numbers (list_numbers pick_numbers) (slice_get (choices picks g.stale) i)) g.book.boot.cores
+-- a row for what each core may enter, where the cores have these picks
+abbrev pub choice_rows : Going → List (List Pick) → List (List ℕ)
+choice_rows g picks = below (λ i. option_numbers (list_numbers pick_numbers) (slice_get (choices picks g.stale) i) ∷ []) g.book.boot.cores
 
--- the rows of a state of users, where the cores have these picks, and numbers of messages are told
--- apart or not
+-- the rows of a state of users, where the cores have these picks, and numbers of messages are
+-- distinguished or not
 abbrev pub rows_of : Bool → List User → Going → List (List Pick) → List (List ℕ)
-rows_of numbered users g picks = count_numbers numbered (log_of g.book) ∷ place_numbers users g ∷ choice_numbers g picks ∷ object_rows numbered (log_of g.book)
+rows_of numbered users g picks = count_numbers numbered (log_of g.book)
+    ∷ (place_rows users g ++ (choice_rows g picks ++ object_rows (change_slots users) numbered (log_of g.book)))
 
 -- the cores of a state have picks, and for all that they have holds a fact
 pub record OfPicks (users : List User) (g : Going) (IsSo : List (List Pick) → Type 0) : Type 0 where

@@ -4,11 +4,11 @@ ghost use Rattle.mcs_explore_rows.specs.Bytes.{code, coded};
 
 use std::alloc::{AllocError, Global};
 
-/// The key of a state: the numbers of its rows, in bytes. It is compared whole: keys with the same
-/// bytes have the same numbers, and rows with one number are equal.
+/// The key of a state: the numbers of its rows, in bytes. Equal bytes mean equal numbers, and equal
+/// numbers mean equal rows.
 pub type Key = Vec<u8>;
 
-/// How many bytes a number has.
+/// Returns how many bytes encode a number.
 fn length(number: u32) -> usize {
     if number < 192 {
         1
@@ -19,7 +19,7 @@ fn length(number: u32) -> usize {
     }
 }
 
-/// How many bytes these numbers have.
+/// Returns how many bytes encode these numbers.
 fn length_of(numbers: &[u32]) -> usize {
     let mut sum: usize = 0;
     for number in numbers {

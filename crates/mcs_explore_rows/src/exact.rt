@@ -1,12 +1,13 @@
-//! The rows of a state, exactly: where those of two states are equal, no later turn tells the
-//! states apart.
-ghost use Rattle.std.specs.Prelude.{ℕ, List, ◌≡◌, ◌+◌, ◌++◌, ◌∷◌, [], IfOk, OnOk, option_copied, map};
+//! The exact rows of a state: if those of two states are equal, no later turn can tell the states
+//! apart.
+ghost use Rattle.std.specs.Prelude.{ℕ, List, ◌≡◌, ◌+◌, ◌++◌, ◌∷◌, [], IfOk, OnOk, option_copied, map, slice_get};
 ghost use Rattle.mcs_book.specs.History.{log_of};
 ghost use Rattle.mcs_book.specs.Queues.{queued_in};
 ghost use Rattle.mcs_book.specs.Chains.{chain_of};
 ghost use Rattle.mcs_explore_rows.specs.Naming.{Adds, Keeps};
 ghost use Rattle.mcs_explore_rows.specs.Numbers.{one, list_numbers, option_numbers, id_numbers, letter_numbers, row_numbers, cap_numbers};
-ghost use Rattle.mcs_explore_rows.specs.Rows.{cnode_numbers, context_numbers, core_numbers, count_numbers, endpoint_numbers, kind_numbers, notification_numbers, object_numbers, object_rows, pick_numbers, place_numbers, position_numbers, rows_of_kind, NameRows, sent_kept, slots_numbers, choice_list_numbers, choice_numbers, thread_numbers};
+ghost use Rattle.mcs_explore_rows.specs.Rows.{cnode_numbers, cnode_rows, context_numbers, core_numbers, count_numbers, endpoint_numbers, head_numbers, kind_numbers, notification_numbers, object_numbers, object_rows, pick_numbers, place_rows, position_numbers, rows_of_kind, NameRows, sent_kept, slots_numbers, choice_list_numbers, choice_rows, thread_numbers};
+ghost use Rattle.mcs_turns.specs.Due.{choices};
 ghost use Rattle.mcs_turns.specs.Turns.{ArePicks};
 
 use crate::met::{Met, Numbers};
@@ -82,7 +83,7 @@ fn put_any_cap(row: &mut Row, cap: Option<Cap>) -> Result<(), AllocError>
     }
 }
 
-/// Adds what is kept of a thread, if it is there.
+/// Adds the row of a thread, if it exists.
 fn put_any_thread(row: &mut Row, thread: Option<&ThreadRow>) -> Result<(), AllocError>
     ensures { OnOk result (row.new.items
         ≡ row.old.items ++ option_numbers row_numbers (option_copied thread.entry)) }
@@ -110,7 +111,7 @@ fn put_any_letter(row: &mut Row, letter: Option<&Letter>, numbered: bool) -> Res
     }
 }
 
-/// Adds the slots of a CNode up to this one.
+/// Adds the slots of a CNode below an index.
 fn put_slots<L: Lines>(
     row: &mut Row,
     kernel: &Kernel<L>,
@@ -128,13 +129,14 @@ fn put_slots<L: Lines>(
 
 /// Adds the radix of a CNode and its slots.
 fn put_cnode<L: Lines>(row: &mut Row, kernel: &Kernel<L>, cnode: ObjId) -> Result<(), AllocError>
-    ensures { OnOk result (row.new.items ≡ row.old.items ++ cnode_numbers (log_of kernel.now) cnode) }
+    ensures { OnOk result (row.new.items
+        ≡ row.old.items ++ cnode_numbers (log_of kernel.now) cnode) }
 {
     put(row, kernel.radix(cnode) as u64)?;
     put_slots(row, kernel, cnode, u8::MAX)
 }
 
-/// Adds what is kept of a thread, and its message that nobody has received.
+/// Adds what is kept of a thread, and its message that no thread has received.
 fn put_runner<L: Lines>(
     row: &mut Row,
     kernel: &Kernel<L>,
@@ -189,7 +191,7 @@ fn put_context<L: Lines>(
     put_chain(row, kernel, context)
 }
 
-/// Adds what there is of an object of its kind.
+/// Adds the state of an object, by its kind.
 fn put_kind<L: Lines>(
     row: &mut Row,
     kernel: &Kernel<L>,
@@ -209,30 +211,52 @@ fn put_kind<L: Lines>(
     }
 }
 
-/// The row of an object.
+/// Adds whether an object is there, and how many slots hold a capability to it, if users change
+/// slots.
+fn put_head<L: Lines>(
+    row: &mut Row,
+    kernel: &Kernel<L>,
+    object: ObjId,
+    changing: bool,
+) -> Result<(), AllocError>
+    ensures { OnOk result (row.new.items
+        ≡ row.old.items ++ head_numbers changing (log_of kernel.now) object) }
+{
+    if !changing {
+        return Ok(());
+    }
+    put_flag(row, kernel.is_there(object))?;
+    put(row, kernel.held(object) as u64)
+}
+
+/// How many numbers a row has room for before it grows.
+const ROOM: usize = 32;
+
+/// Returns the row of an object.
 fn object_row<L: Lines>(
     alloc: Global,
     kernel: &Kernel<L>,
     object: ObjId,
+    changing: bool,
     numbered: bool,
 ) -> Result<Row, AllocError>
-    ensures { IfOk result (λ r. r.items ≡ object_numbers numbered (log_of kernel.now) object) }
+    ensures { IfOk result (λ r. r.items
+        ≡ object_numbers changing numbered (log_of kernel.now) object) }
 {
-    let mut row = Vec::new(alloc);
-    put_flag(&mut row, kernel.is_there(object))?;
-    put(&mut row, kernel.held(object) as u64)?;
+    let mut row = Vec::with_capacity(alloc, ROOM)?;
+    put_head(&mut row, kernel, object, changing)?;
     put_kind(&mut row, kernel, object, numbered)?;
     Ok(row)
 }
 
-/// How many messages were sent; 0 where the numbers of messages are not told apart.
+/// Returns how many messages were sent; 0 if message numbers are not distinguished.
 fn sent_kept<L: Lines>(kernel: &Kernel<L>, numbered: bool) -> u64
     ensures { result ≡ sent_kept numbered (log_of kernel.now) }
 {
     if numbered { kernel.sent() as u64 } else { 0 }
 }
 
-/// The row of what was counted.
+/// Returns the row of the counters.
 fn count_row<L: Lines>(alloc: Global, kernel: &Kernel<L>, numbered: bool) -> Result<Row, AllocError>
     ensures { IfOk result (λ r. r.items ≡ count_numbers numbered (log_of kernel.now)) }
 {
@@ -289,7 +313,7 @@ fn put_any_position(row: &mut Row, position: Option<Position>) -> Result<(), All
     }
 }
 
-/// Adds what a core may enter, where it has these picks, if there are stale picks of it.
+/// Adds the choices of a core: these picks and its stale ones, if it has a list of stale picks.
 fn put_any_choices(
     alloc: Global,
     row: &mut Row,
@@ -310,27 +334,68 @@ fn put_any_choices(
     Ok(())
 }
 
-/// The row of the positions of users.
-fn place_row<L: Lines>(alloc: Global, users: &Users, walk: &Walk<L>) -> Result<Row, AllocError>
-    ensures { IfOk result (λ r. r.items ≡ place_numbers users.now walk.now) }
+/// Returns the row of the position of a user.
+fn place_row<L: Lines>(alloc: Global, walk: &Walk<L>, user: usize) -> Result<Row, AllocError>
+    ensures { IfOk result (λ r. r.items
+        ≡ option_numbers position_numbers (slice_get walk.now.places user)) }
 {
-    let mut row = Vec::new(alloc);
-    for user in 0..users.lists().len() {
-        put_any_position(&mut row, walk.place(user))?;
-    }
+    let mut row = Vec::with_capacity(alloc, ROOM)?;
+    put_any_position(&mut row, walk.place(user))?;
     Ok(row)
 }
 
-/// The row of what each core may enter, where the cores have these picks.
-fn choice_row<L: Lines>(alloc: Global, walk: &Walk<L>, picks: &[Picks]) -> Result<Row, OutOfMemory>
-    ensures { IfOk result (λ r. r.items ≡ choice_numbers walk.now picks.now) }
+/// Appends a row for the position of each user.
+fn put_places<L: Lines>(
+    alloc: Global,
+    met: &mut Met,
+    numbers: &mut Numbers,
+    users: &Users,
+    walk: &Walk<L>,
+) -> Result<(), OutOfMemory>
+    ensures named { OnOk result (Adds met.old numbers.old.items met.new numbers.new.items
+        (place_rows users.now walk.now)) }
+    ensures kept { Keeps met.old met.new }
 {
-    let mut row = Vec::new(alloc);
-    for core in 0..walk.kernel().book().cores() {
-        let picks = picked(picks, core as usize);
-        put_any_choices(alloc, &mut row, picks, walk.stale(CoreId(core)))?;
+    for user in 0..users.lists().len() {
+        let row = place_row(alloc, walk, user)?;
+        met.put(numbers, row)?;
     }
+    Ok(())
+}
+
+/// Returns the row of what a core may enter, where the cores have these picks.
+fn choice_row<L: Lines>(
+    alloc: Global,
+    walk: &Walk<L>,
+    picks: &[Picks],
+    core: u8,
+) -> Result<Row, OutOfMemory>
+    ensures { IfOk result (λ r. r.items ≡ option_numbers (list_numbers pick_numbers)
+        (slice_get (choices picks.now walk.now.stale) core)) }
+{
+    let mut row = Vec::with_capacity(alloc, ROOM)?;
+    let picks = picked(picks, core as usize);
+    put_any_choices(alloc, &mut row, picks, walk.stale(CoreId(core)))?;
     Ok(row)
+}
+
+/// Adds a row for what each core may enter, where the cores have these picks.
+fn put_choices<L: Lines>(
+    alloc: Global,
+    met: &mut Met,
+    numbers: &mut Numbers,
+    walk: &Walk<L>,
+    picks: &[Picks],
+) -> Result<(), OutOfMemory>
+    ensures named { OnOk result (Adds met.old numbers.old.items met.new numbers.new.items
+        (choice_rows walk.now picks.now)) }
+    ensures kept { Keeps met.old met.new }
+{
+    for core in 0..walk.kernel().book().cores() {
+        let row = choice_row(alloc, walk, picks, core)?;
+        met.put(numbers, row)?;
+    }
+    Ok(())
 }
 
 /// Adds the rows of all objects of a kind.
@@ -340,10 +405,11 @@ fn put_rows<L: Lines>(
     numbers: &mut Numbers,
     kernel: &Kernel<L>,
     kind: Kind,
+    changing: bool,
     numbered: bool,
 ) -> Result<(), OutOfMemory>
     ensures named { OnOk result (Adds met.old numbers.old.items met.new numbers.new.items
-        (rows_of_kind numbered (log_of kernel.now) kind)) }
+        (rows_of_kind changing numbered (log_of kernel.now) kind)) }
     ensures kept { Keeps met.old met.new }
 {
     for place in 0..kernel.made(kind) {
@@ -351,36 +417,88 @@ fn put_rows<L: Lines>(
             kind,
             serial: place + 1,
         };
-        let row = object_row(alloc, kernel, object, numbered)?;
-        met.put(numbers, &row)?;
+        let row = object_row(alloc, kernel, object, changing, numbered)?;
+        met.put(numbers, row)?;
     }
     Ok(())
 }
 
-/// Adds the rows of all objects.
+/// Adds the rows of the CNodes, if users change slots.
+fn put_cnodes<L: Lines>(
+    alloc: Global,
+    met: &mut Met,
+    numbers: &mut Numbers,
+    kernel: &Kernel<L>,
+    changing: bool,
+    numbered: bool,
+) -> Result<(), OutOfMemory>
+    ensures named { OnOk result (Adds met.old numbers.old.items met.new numbers.new.items
+        (cnode_rows changing numbered (log_of kernel.now))) }
+    ensures kept { Keeps met.old met.new }
+{
+    if changing {
+        return put_rows(alloc, met, numbers, kernel, Kind::CNode, true, numbered);
+    }
+    Ok(())
+}
+
+/// Adds the rows of all objects, those of CNodes only if users change slots.
 fn put_objects<L: Lines>(
     alloc: Global,
     met: &mut Met,
     numbers: &mut Numbers,
     kernel: &Kernel<L>,
+    changing: bool,
     numbered: bool,
 ) -> Result<(), OutOfMemory>
     ensures named { OnOk result (Adds met.old numbers.old.items met.new numbers.new.items
-        (object_rows numbered (log_of kernel.now))) }
+        (object_rows changing numbered (log_of kernel.now))) }
     ensures kept { Keeps met.old met.new }
 {
-    put_rows(alloc, met, numbers, kernel, Kind::CNode, numbered)?;
-    put_rows(alloc, met, numbers, kernel, Kind::Thread, numbered)?;
-    put_rows(alloc, met, numbers, kernel, Kind::Endpoint, numbered)?;
-    put_rows(alloc, met, numbers, kernel, Kind::Notification, numbered)?;
-    put_rows(alloc, met, numbers, kernel, Kind::Reply, numbered)?;
-    put_rows(alloc, met, numbers, kernel, Kind::Context, numbered)?;
+    put_cnodes(alloc, met, numbers, kernel, changing, numbered)?;
+    put_rows(
+        alloc,
+        met,
+        numbers,
+        kernel,
+        Kind::Thread,
+        changing,
+        numbered,
+    )?;
+    put_rows(
+        alloc,
+        met,
+        numbers,
+        kernel,
+        Kind::Endpoint,
+        changing,
+        numbered,
+    )?;
+    put_rows(
+        alloc,
+        met,
+        numbers,
+        kernel,
+        Kind::Notification,
+        changing,
+        numbered,
+    )?;
+    put_rows(alloc, met, numbers, kernel, Kind::Reply, changing, numbered)?;
+    put_rows(
+        alloc,
+        met,
+        numbers,
+        kernel,
+        Kind::Context,
+        changing,
+        numbered,
+    )?;
     Ok(())
 }
 
-/// Returns the number in `met` of each row of a state in which the cores have these picks. Rows
-/// that are not met yet are added, and the others keep their numbers. `numbered` says whether the
-/// numbers of messages tell rows apart. OutOfMemory where memory is refused.
+/// Returns the number in `met` of each row of a state, given the picks of its cores. New rows are
+/// added; the others keep their numbers. `numbered` says whether rows contain message numbers.
+/// `OutOfMemory` if an allocation fails.
 pub fn exact_numbers<L: Lines>(
     alloc: Global,
     met: &mut Met,
@@ -396,11 +514,10 @@ pub fn exact_numbers<L: Lines>(
     let kernel = walk.kernel();
     let mut numbers = Vec::new(alloc);
     let counts = count_row(alloc, kernel, numbered)?;
-    met.put(&mut numbers, &counts)?;
-    let places = place_row(alloc, users, walk)?;
-    met.put(&mut numbers, &places)?;
-    let choices = choice_row(alloc, walk, picks)?;
-    met.put(&mut numbers, &choices)?;
-    put_objects(alloc, met, &mut numbers, kernel, numbered)?;
+    met.put(&mut numbers, counts)?;
+    put_places(alloc, met, &mut numbers, users, walk)?;
+    put_choices(alloc, met, &mut numbers, walk, picks)?;
+    let changing = users.change_slots();
+    put_objects(alloc, met, &mut numbers, kernel, changing, numbered)?;
     Ok(numbers)
 }

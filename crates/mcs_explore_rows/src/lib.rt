@@ -1,4 +1,4 @@
-//! A state in rows of numbers, which its exact key is made of (own): states with the same rows are
+//! The exact rows of a state, whose numbers are its exact key (own): states with the same rows are
 //! alike.
 //!
 //! ```text
@@ -9,6 +9,7 @@
 
 mod coding;
 mod exact;
+mod hashed;
 mod met;
 mod numbers;
 

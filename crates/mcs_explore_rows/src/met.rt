@@ -1,7 +1,8 @@
-//! The rows that were met, each of which has a number.
+//! An interner of rows, which numbers them.
 ghost use Rattle.std.specs.Prelude.{◌≡◌, ◌∷◌, [], IfOk, OnOk, Some, length, slice_get};
 ghost use Rattle.mcs_explore_rows.specs.Naming.{Adds, Keeps};
 
+use crate::hashed::Hashed;
 use crate::numbers::Row;
 use indexmap::IndexSet;
 use mcs_types::OutOfMemory;
@@ -11,10 +12,10 @@ use std::marker::Model;
 /// The numbers of rows.
 pub type Numbers = Vec<u32>;
 
-/// The rows that were met. Clauses see them in the order of their numbers, from 0.
+/// An interner of rows. Clauses see the rows in the order of their numbers, from 0.
 #[derive(Drop)]
 pub struct Met {
-    rows: IndexSet<Row>,
+    rows: IndexSet<Hashed>,
 }
 
 impl Model for Met {
@@ -22,10 +23,10 @@ impl Model for Met {
 
     ghost Value = { List (List ℕ) };
 
-    ghost view = { λ m. map (λ r. r.items) m.rows.keys };
+    ghost view = { λ m. map (λ r. r.row.items) m.rows.keys };
 }
 
-/// A number of 32 bits. OutOfMemory where it has more.
+/// Returns a number as 32 bits. `OutOfMemory` if it has more.
 fn narrow(number: usize) -> Result<u32, OutOfMemory>
     ensures { IfOk result (λ n. n ≡ number) }
 {
@@ -36,7 +37,7 @@ fn narrow(number: usize) -> Result<u32, OutOfMemory>
 }
 
 impl Met {
-    /// None.
+    /// Returns an interner without rows.
     pub fn new(alloc: Global) -> Met
         ensures { result ≡ [] }
     {
@@ -45,16 +46,16 @@ impl Met {
         }
     }
 
-    /// How many there are.
+    /// Returns how many rows it has.
     pub fn len(&self) -> usize
         ensures { result ≡ length self.now }
     {
         self.rows.len()
     }
 
-    /// Adds a row that was not met before. Returns its number.
-    fn add(&mut self, row: Row) -> Result<u32, OutOfMemory>
-        ensures number { IfOk result (λ n. slice_get self.new n ≡ Some row.items) }
+    /// Adds a row that is not in it yet. Returns its number.
+    fn add(&mut self, row: Hashed) -> Result<u32, OutOfMemory>
+        ensures number { IfOk result (λ n. slice_get self.new n ≡ Some row.row.items) }
         ensures kept { Keeps self.old self.new }
     {
         let Ok((number, _)) = self.rows.insert_full(row) else {
@@ -64,23 +65,22 @@ impl Met {
         Ok(number)
     }
 
-    /// Returns the number of a row, which is added where it was not met before.
-    fn number(&mut self, row: &Row) -> Result<u32, OutOfMemory>
-        ensures number { IfOk result (λ n. slice_get self.new n ≡ Some row.now.items) }
+    /// Returns the number of a row, which is added if it is not in it yet.
+    fn number(&mut self, row: Row) -> Result<u32, OutOfMemory>
+        ensures number { IfOk result (λ n. slice_get self.new n ≡ Some row.items) }
         ensures kept { Keeps self.old self.new }
     {
-        // most rows were met before: a copy is made of a new one alone
-        if let Some(number) = self.rows.get_index_of(row) {
+        let row = Hashed { row };
+        if let Some(number) = self.rows.get_index_of(&row) {
             return narrow(number);
         }
-        let row = row.clone()?;
         self.add(row)
     }
 
-    /// Adds the number of a row to others.
-    pub fn put(&mut self, numbers: &mut Numbers, row: &Row) -> Result<(), OutOfMemory>
+    /// Adds the number of a row to a list.
+    pub fn put(&mut self, numbers: &mut Numbers, row: Row) -> Result<(), OutOfMemory>
         ensures named { OnOk result (Adds self.old numbers.old.items self.new numbers.new.items
-            (row.now.items ∷ [])) }
+            (row.items ∷ [])) }
         ensures kept { Keeps self.old self.new }
     {
         let number = self.number(row)?;

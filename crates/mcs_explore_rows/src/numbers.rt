@@ -1,4 +1,4 @@
-//! Values as numbers, which distinguish each from all others of its type.
+//! Encodings of values as numbers, each injective for its type.
 ghost use Rattle.std.specs.Prelude.{◌≡◌, ◌++◌, OnOk};
 ghost use Rattle.mcs_types.specs.Ids.{kind_number};
 ghost use Rattle.mcs_explore_rows.specs.Numbers.{block_numbers, cap_numbers, flag_number, id_numbers, letter_numbers, mode_number, number_kept, one, list_numbers, option_numbers, queue_numbers, row_numbers, send_number};
@@ -7,7 +7,7 @@ use mcs_threads::{Block, ThreadRow};
 use mcs_types::{Cap, Kind, Letter, Mode, ObjId, Queue, SendMode};
 use std::alloc::AllocError;
 
-/// Numbers.
+/// A row: the numbers that encode a part of a state.
 pub type Row = Vec<u64>;
 
 /// The number of a kind.
@@ -167,14 +167,14 @@ fn put_words(row: &mut Row, words: &[u64]) -> Result<(), AllocError>
     put(row, 0)
 }
 
-/// The number of a message; 0 where the numbers of messages are not told apart.
+/// Returns the number of a message; 0 if message numbers are not distinguished.
 fn number_kept(letter: &Letter, numbered: bool) -> u64
     ensures { result ≡ number_kept numbered letter.now }
 {
     if numbered { letter.number as u64 } else { 0 }
 }
 
-/// Adds a message, with its number where the numbers of messages are told apart.
+/// Adds a message, with its number if message numbers are distinguished.
 pub fn put_letter(row: &mut Row, letter: &Letter, numbered: bool) -> Result<(), AllocError>
     ensures { OnOk result (row.new.items ≡ row.old.items ++ letter_numbers numbered letter.now) }
 {

@@ -68,14 +68,14 @@ fails showed.NotShown = false
 abbrev pub any_fails : List Judged → Bool
 any_fails js = list_any (λ (j : Judged). fails j.showed) js
 
--- a verdict by which a question does not hold, as something shows that is kept
+-- a verdict by which a question does not hold, as a kept state or answer shows
 pub record IsShownToFail (users : List User) (kinds : List Kind) (tables : Tables) (f : Option Sighting) (q : Asked) : Type 0 where
   pub verdict : Verdict
   pub is : IsVerdict users kinds tables f None q verdict
   pub fails : verdict.holds ≡ false
   pub seen : is_some verdict.seen ≡ true
 
--- so it is with one of the questions
+-- one of the questions is shown to fail
 pub record HasShownFailure (users : List User) (questions : List AskedLine) (kinds : List Kind) (tables : Tables) (failed : List (Option Sighting)) : Type 0 where
   pub index : ℕ
   pub line : AskedLine

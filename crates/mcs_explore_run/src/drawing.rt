@@ -1,4 +1,4 @@
-//! How a turn is drawn.
+//! Draws a turn at random.
 ghost use Rattle.std.specs.Prelude.{◌≡◌, ◌⊎◌, Some, true, false, IfNone, IfSome, IsSome};
 ghost use Rattle.mcs_turns.specs.Turns.{ArePicks, IsOver};
 ghost use Rattle.mcs_explore_walk.specs.Walks.{HasEachTurn};
@@ -9,14 +9,13 @@ use mcs_queues::Lines;
 use rand_core::Rng;
 use rand_pcg::Pcg32;
 
-/// Draws whether the last of so many is taken in the place of one before, each as likely as the
-/// others.
+/// Draws with probability 1/`count` whether the newest of `count` turns replaces the one chosen
+/// before.
 fn is_drawn(random: &mut Pcg32, count: u32) -> bool {
     count == 0 || random.next_u32() % count == 0
 }
 
-/// Returns the turn that is drawn, with one more that may be possible, and then is the last of so
-/// many.
+/// Returns the chosen turn after one more candidate, which counts only if it is possible.
 fn redrawn(
     random: &mut Pcg32,
     count: u32,
@@ -37,7 +36,7 @@ fn redrawn(
     }
 }
 
-/// Draws one of the turns that are possible, where the cores have these picks and so these turns.
+/// Draws one of the possible turns, each with the same probability, given the picks of the cores.
 pub fn draw<L: Lines>(
     walk: &Walk<L>,
     users: &Users,

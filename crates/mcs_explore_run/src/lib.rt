@@ -1,9 +1,9 @@
-//! Runs of the users of a script: each of their turns is drawn among those that are possible.
+//! Random runs of the users of a script: each turn is drawn among the possible ones.
 //!
 //! ```text
-//! a script ── drawing ──> one of the turns that the rule has, each as likely as the others
-//!     ── running ──> a run of so many turns at most: the script that shows it, or a watch sees it
-//!     ── sampling ──> many runs, each by a seed of its own, and what is kept of them
+//! a script ── drawing ──> one of the turns that the rule allows, with equal probability
+//!     ── running ──> a run of a limited number of turns: its script, or a watch sees it
+//!     ── sampling ──> many runs, each with its own seed, and what is collected of them
 //!     ── showing ──> what they show of each question ── telling ──> a report
 //! ```
 #![tactic(auto)]

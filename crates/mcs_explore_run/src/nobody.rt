@@ -4,7 +4,7 @@ use mcs_queues::PlainLines;
 use mcs_turns::Position;
 use mcs_types::Answer;
 
-/// Keeps nothing of what it is shown.
+/// A watch that keeps nothing.
 #[derive(Drop)]
 pub struct Nobody;
 

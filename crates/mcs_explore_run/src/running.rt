@@ -15,8 +15,8 @@ use rand_core::SeedableRng;
 use rand_pcg::Pcg32;
 use std::alloc::Global;
 
-/// A run: how many turns it made, where they lead, and whether no turn is possible there. If it is
-/// not over, it made as many as were asked for.
+/// A run: how many turns it made, the state after them, and whether no turn is possible there. If
+/// it is not over, it made the wanted number.
 #[derive(Drop)]
 pub struct Run {
     walk: Walk<PlainLines>,
@@ -33,7 +33,8 @@ pub struct Drawn {
     pub is_over: bool,
 }
 
-/// Shows a state of a run with a number, which may be over if that is said.
+/// Shows the watch a state of the run with this number; `is_over` may be set only if no turn is
+/// possible there.
 fn show_state<W: Watch>(
     users: &Users,
     walk: &Walk<PlainLines>,
@@ -48,7 +49,7 @@ fn show_state<W: Watch>(
     watch.see_state(users, number, walk, is_over)
 }
 
-/// Makes a turn that is possible in a run with a number, and shows it.
+/// Makes a possible turn in the run with this number, and shows it to the watch.
 fn make_turn<W: Watch>(
     alloc: Global,
     users: &Users,
@@ -71,8 +72,8 @@ fn make_turn<W: Watch>(
     }
 }
 
-/// Shows the state of a run with a number, makes one of the turns that are possible, which is
-/// shown, too, and returns whether one was.
+/// Shows the watch the state of the run with this number, draws one of the possible turns, makes it
+/// and shows it. Returns whether there was one.
 fn step<W: Watch>(
     alloc: Global,
     users: &Users,
@@ -98,9 +99,9 @@ fn step<W: Watch>(
     Ok(true)
 }
 
-/// Makes turns from the boot of a script on, so many at most, and shows each state and each turn as
-/// those of the run with a number. BookFull where the book has 1,000,000 lines, OutOfMemory where
-/// memory was refused; else the faults of the watch.
+/// Makes at most `most` random turns from the boot of a script on, and shows the watch each state
+/// and turn as one of run `number`. `BookFull` if the book has 1,000,000 lines, `OutOfMemory` if an
+/// allocation fails; else the faults of the watch.
 pub fn make_turns<W: Watch>(
     alloc: Global,
     script: &UserScript,
@@ -134,9 +135,9 @@ pub fn make_turns<W: Watch>(
     })
 }
 
-/// Draws a run of a script by a seed, of so many turns at most, and returns the script that shows
-/// it, behind a comment and the names. A seed gives the same run each time. BookFull where the book
-/// has 1,000,000 lines, OutOfMemory where memory was refused.
+/// Draws a run of a script by a seed, of at most `most` turns, and returns its script, after a
+/// comment and the names. A seed gives the same run each time. `BookFull` if the book has 1,000,000
+/// lines, `OutOfMemory` if an allocation fails.
 pub fn draw_run(
     alloc: Global,
     script: &UserScript,

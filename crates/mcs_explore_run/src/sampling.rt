@@ -1,4 +1,4 @@
-//! Many runs, each by a seed of its own, and what is kept of them.
+//! Many runs, each with its own seed, and what is collected of them.
 ghost use Rattle.std.specs.Prelude.{◌≡◌, IfOk, OnOk};
 ghost use Rattle.mcs_explore_run.specs.Samples.{IsKeptOfRuns, SeesRuns};
 
@@ -20,22 +20,22 @@ pub struct Chances {
 }
 
 impl Chances {
-    /// Returns the seed of the run with a number, from 0 on: one more for each run, and 0 after the
-    /// largest.
+    /// Returns the seed of the run with this number, counted from 0: one more for each run, and 0
+    /// after the largest seed.
     pub fn seed_of(&self, number: usize) -> u64 {
         self.seed.wrapping_add(number as u64)
     }
 }
 
 /// What is kept of runs: how many of them ended, their ends and answers, and where questions
-/// failed. A place is the number of a run, from 0 on.
+/// failed. A state is named by the number of its run, from 0.
 pub struct Sample<'a> {
     pub chances: Chances,
     pub ended: usize,
     pub watched: Watched<'a, Quiet>,
 }
 
-// By hand, so that it is a function of its own.
+// Written by hand, so that it is proved once, as a separate function.
 impl<'a> Drop for Sample<'a> {
     fn drop(self) {
         let Sample {
@@ -46,7 +46,7 @@ impl<'a> Drop for Sample<'a> {
     }
 }
 
-/// Draws the run with a number, which is shown, and returns whether it ended.
+/// Draws the random run with this number, shows it to the watch, and returns whether it ended.
 fn draw_one<W: Watch>(
     alloc: Global,
     script: &UserScript,
@@ -65,14 +65,15 @@ fn draw_one<W: Watch>(
     }
 }
 
-/// Draws runs of the users of a script, and keeps what comes of them. BookFull where a run's book
-/// has 1,000,000 lines, OutOfMemory where memory was refused.
+/// Returns what random runs of the users of a script show: their ends and answers, and where
+/// questions fail. `BookFull` if a run's book has 1,000,000 lines, `OutOfMemory` if an allocation
+/// fails.
 pub fn draw_runs<'a>(
     alloc: Global,
     script: &'a UserScript,
     chances: Chances,
 ) -> Result<Sample<'a>, LabFault>
-    // the ends, the answers and the failures that are kept are those of states and turns of runs
+    // the kept ends, answers and failures are those of states and turns of runs
     ensures { IfOk result (λ s. IsKeptOfRuns script.entry.now.users script.entry.now.boot
         script.entry.now.asked.items s.watched.ends s.watched.answers s.watched.failed.items) }
 {

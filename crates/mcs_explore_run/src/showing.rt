@@ -11,18 +11,18 @@ use mcs_lab_check::LabFault;
 use mcs_trace::Line;
 use std::alloc::Global;
 
-/// What runs show of a question. A run is named by its number, from 0 on.
+/// What runs show of a question. A run is named by its number, from 0.
 #[derive(Clone, Copy, PartialEq, Eq)]
 pub enum Showed {
-    /// It does not hold, as this run shows.
+    /// It fails, as this run shows.
     Fails(usize),
-    /// What it asks for came in this run.
+    /// The wanted event came in this run.
     Came(usize),
-    /// What it asks for came in no run.
+    /// The wanted event came in no run.
     CameNot,
     /// It failed in no run.
     FailedNot,
-    /// It asks what a run does not show.
+    /// A run cannot show it.
     NotShown,
 }
 
@@ -34,7 +34,7 @@ pub struct Judged<'a> {
 }
 
 impl Showed {
-    /// Returns whether a run shows that the question does not hold.
+    /// Returns whether a run shows that the question fails.
     pub fn fails(self) -> bool
         ensures { result ≡ fails self }
     {
@@ -45,7 +45,7 @@ impl Showed {
     }
 }
 
-/// Returns what runs show of a question, by the verdict on what is kept of them.
+/// Returns what runs show of a question, by the verdict on what was kept.
 fn showed_by(asked: &Asked, verdict: Verdict) -> Showed
     ensures { fails result ≡ true
         → (verdict.holds ≡ false) × (is_some verdict.seen ≡ true) }
@@ -59,8 +59,8 @@ fn showed_by(asked: &Asked, verdict: Verdict) -> Showed
     }
 }
 
-/// Returns the verdict on the question with a number, from 0 on, by what is kept of runs. Answers
-/// are spelled in this line. OutOfMemory where memory was refused.
+/// Returns the verdict on the question with a number, counted from 0, by what was kept of runs.
+/// `line` is a buffer for the text of an answer. `OutOfMemory` if an allocation fails.
 fn verdict_of(
     alloc: Global,
     line: &mut Line,
@@ -82,8 +82,8 @@ fn verdict_of(
     verdict_on(alloc, line, grounds, number, None, question)
 }
 
-/// Returns what runs show of the question with a number, from 0 on. Answers are spelled in this
-/// line. OutOfMemory where memory was refused.
+/// Returns what runs show of the question with a number, counted from 0. `line` is a buffer for the
+/// text of an answer. `OutOfMemory` if an allocation fails.
 fn showed_of(
     alloc: Global,
     line: &mut Line,
@@ -108,8 +108,7 @@ fn push<'a>(all: &mut Vec<Judged<'a>>, judged: Judged<'a>) -> Result<(), LabFaul
     Ok(())
 }
 
-/// Adds what runs show of the question with a number, if that line asks something that holds or
-/// not.
+/// Adds what runs show of the question with a number, if that line holds or fails.
 fn push_judged<'a>(
     alloc: Global,
     all: &mut Vec<Judged<'a>>,
@@ -137,8 +136,8 @@ fn push_judged<'a>(
     )
 }
 
-/// Returns what runs show of each question, in the order of their lines. Answers are spelled in
-/// this line. OutOfMemory where memory was refused.
+/// Returns what runs show of each question, in the order of their lines. `line` is a buffer for the
+/// text of an answer. `OutOfMemory` if an allocation fails.
 pub fn all_judged<'a>(
     alloc: Global,
     line: &mut Line,

@@ -1,4 +1,4 @@
-//! The report on runs that were drawn.
+//! The report on drawn runs.
 ghost use Rattle.std.specs.Prelude.{◌≡◌, ◌||◌, true, not, IfOk};
 ghost use Rattle.mcs_explore_report.specs.Failing.{IsFailing};
 ghost use Rattle.mcs_explore_report.specs.Outcomes.{are_done};
@@ -25,7 +25,7 @@ struct Report<'a> {
     judged: Vec<Judged<'a>>,
 }
 
-// By hand, so that it is a function of its own.
+// Written by hand, so that it is proved once, as a separate function.
 impl<'a> Drop for Report<'a> {
     fn drop(self) {
         let Report {
@@ -36,7 +36,7 @@ impl<'a> Drop for Report<'a> {
     }
 }
 
-/// Returns whether in each kind of end each user is done, or may wait there for ever.
+/// Returns whether in each kind of end each user is done, or may wait for ever.
 fn are_done(script: &UserScript, sample: &Sample<'_>) -> bool
     ensures { result ≡ are_done script.now.asked.items sample.now.watched.ends }
 {
@@ -78,8 +78,8 @@ impl<'a> Report<'a> {
         })
     }
 
-    /// Returns whether a run shows that a question does not hold, or ends with a user that is not
-    /// done and may not wait.
+    /// Returns whether a run shows that a question fails, or ends with a user that is not done and
+    /// may not wait.
     fn has_failure(&self) -> bool
         ensures { result ≡ (any_fails self.now.judged.items
             || not (are_done self.now.script.now.asked.items self.now.sample.watched.ends)) }
@@ -87,7 +87,8 @@ impl<'a> Report<'a> {
         any_fails(&self.judged) || !are_done(self.script, &self.sample)
     }
 
-    /// Returns how runs of this kind end.
+    /// Returns how the runs with this kind of end ended: all done, in a deadlock, or with entries
+    /// left.
     fn ending(&self, end: &End) -> Ending {
         ending_of(&self.script.asked, &end.standing)
     }
@@ -99,18 +100,18 @@ impl<'a> Report<'a> {
     }
 }
 
-/// Puts how many runs there are.
+/// Appends how many runs there are.
 fn put_runs(page: &mut Page, chances: Chances) {
     page.counted(chances.runs, "run");
 }
 
-/// Puts the option by which the run with a number is drawn again.
+/// Appends the options that draw the run with this number again.
 fn put_seed(page: &mut Page, chances: Chances, number: usize) {
     page.put(b"--seed ");
     page.number(chances.seed_of(number));
 }
 
-/// Puts how many runs were drawn, by which seeds, and how many of them ended.
+/// Appends how many runs were drawn, by which seeds, and how many of them ended.
 fn put_head(page: &mut Page, sample: &Sample<'_>) {
     let chances = sample.chances;
     put_runs(page, chances);
@@ -127,7 +128,7 @@ fn put_head(page: &mut Page, sample: &Sample<'_>) {
     page.put(b" turns\n");
 }
 
-/// Puts a kind of end with its number, from 1 on.
+/// Appends a kind of end with its number, from 1 on.
 fn put_end(page: &mut Page, report: &Report<'_>, number: usize, end: &End) {
     let chances = report.sample.chances;
     page.put(b"end ");
@@ -146,7 +147,7 @@ fn put_end(page: &mut Page, report: &Report<'_>, number: usize, end: &End) {
     }
 }
 
-/// Puts all kinds of ends that are all done, or all others.
+/// Appends all kinds of ends that are all done, or all others.
 fn put_ends(page: &mut Page, report: &Report<'_>, wanted: bool) {
     for (index, end) in report.sample.watched.ends.kinds().iter().enumerate() {
         let is_done = report.ending(end) == Ending::AllDone;
@@ -156,7 +157,7 @@ fn put_ends(page: &mut Page, report: &Report<'_>, wanted: bool) {
     }
 }
 
-/// Puts an entry of a user with its answers. These are spelled in this line.
+/// Appends an entry of a user with its answers; `line` is a buffer for their texts.
 fn put_entry(
     page: &mut Page,
     alloc: Global,
@@ -186,7 +187,8 @@ fn put_entry(
     Ok(())
 }
 
-/// Puts all entries, in the order of users and entries. Answers are spelled in this line.
+/// Appends all entries, in the order of users and entries; `line` is a buffer for the texts of
+/// answers.
 fn put_entries(
     page: &mut Page,
     alloc: Global,
@@ -209,7 +211,7 @@ fn put_entries(
     Ok(())
 }
 
-/// Puts a question and what runs show of it.
+/// Appends a question and what runs show of it.
 fn put_question(page: &mut Page, chances: Chances, judged: &Judged<'_>) {
     put_asked(page, judged.line);
     page.put(b": ");
@@ -229,7 +231,7 @@ fn put_question(page: &mut Page, chances: Chances, judged: &Judged<'_>) {
     page.put(b"\n");
 }
 
-/// Puts all questions that fail, or all others.
+/// Appends all questions that fail, or all others.
 fn put_questions(page: &mut Page, report: &Report<'_>, wanted: bool) {
     for judged in report.judged.iter() {
         if judged.showed.fails() == wanted {
@@ -238,7 +240,7 @@ fn put_questions(page: &mut Page, report: &Report<'_>, wanted: bool) {
     }
 }
 
-/// Puts a clause of the verdict, behind a semicolon unless it is the first.
+/// Appends a clause of the verdict, after a semicolon unless it is the first.
 fn put_clause(page: &mut Page, is_first: bool, text: &str) {
     if !is_first {
         page.put(b"; ");
@@ -246,7 +248,7 @@ fn put_clause(page: &mut Page, is_first: bool, text: &str) {
     page.put(text.as_bytes());
 }
 
-/// Puts the questions that fail, a clause for each.
+/// Appends the questions that fail, a clause for each.
 fn put_failures(page: &mut Page, report: &Report<'_>, is_first: bool) {
     let mut is_first = is_first;
     for judged in report.judged.iter() {
@@ -258,7 +260,7 @@ fn put_failures(page: &mut Page, report: &Report<'_>, is_first: bool) {
     }
 }
 
-/// Puts the questions of which runs show nothing, a clause for each.
+/// Appends the questions about which runs show nothing, a clause for each.
 fn put_unseen(page: &mut Page, report: &Report<'_>) {
     for judged in report.judged.iter() {
         let what = match judged.showed {
@@ -272,7 +274,7 @@ fn put_unseen(page: &mut Page, report: &Report<'_>) {
     }
 }
 
-/// Puts what fails.
+/// Appends what fails.
 fn put_failure(page: &mut Page, report: &Report<'_>) {
     page.put(b"FAILS: ");
     let mut is_first = true;
@@ -287,7 +289,7 @@ fn put_failure(page: &mut Page, report: &Report<'_>) {
     put_failures(page, report, is_first);
 }
 
-/// Puts the verdict: what fails, or that nothing did so far.
+/// Appends the verdict: what fails, or that nothing did so far.
 fn put_verdict(page: &mut Page, report: &Report<'_>) {
     put_runs(page, report.sample.chances);
     page.put(b", not whole: ");
@@ -300,8 +302,8 @@ fn put_verdict(page: &mut Page, report: &Report<'_>) {
     page.put(b"\n");
 }
 
-/// Writes a report as text: first what fails, and the verdict last. Answers are spelled in this
-/// line.
+/// Writes a report as text: failures first, and the verdict last. `line` is a buffer for the texts
+/// of answers.
 fn write_report<W: Write>(
     alloc: Global,
     line: &mut Line,
@@ -319,15 +321,14 @@ fn write_report<W: Write>(
     page.write(to)
 }
 
-/// Draws runs of the users of a script, and reports what came in them. Returns whether something
-/// fails.
+/// Draws runs of the users of a script, and reports on them. Returns whether something fails.
 fn tell_of<W: Write>(
     alloc: Global,
     script: &UserScript,
     chances: Chances,
     to: &mut W,
 ) -> Result<bool, LabFault>
-    // where something fails, some run of the script shows it
+    // if something fails, some run of the script shows it
     ensures { IfOk result (λ b. b ≡ true → IsFailing script.now) }
 {
     let mut line = Box::new(alloc, Line::new())?;
@@ -336,18 +337,18 @@ fn tell_of<W: Write>(
     Ok(report.has_failure())
 }
 
-/// Reads a script of users, draws runs of them, and reports what came in these: how many ended, the
-/// kinds of their ends, the answers of each entry, and what they show of each question, each with
-/// the seed of the first run in which it came. Returns whether something fails. The faults are
-/// first those of the script; then BookFull where a run's book has 1,000,000 lines, OutOfMemory
-/// where memory was refused, Write where a write failed.
+/// Reads a script of users, draws runs of them, and reports on these: how many ended, the kinds of
+/// their ends, the answers of each entry, and what they show of each question, each with the seed
+/// of the first run that shows it. Returns whether something fails. Faults of the script come
+/// first; then `BookFull` if a run's book has 1,000,000 lines, `OutOfMemory` if an allocation
+/// fails, `Write` if a write failed.
 pub fn tell_runs<R: Read, W: Write>(
     alloc: Global,
     from: &mut Source<R>,
     chances: Chances,
     to: &mut W,
 ) -> Result<bool, ExploreFault>
-    // where something fails, a script was read, and some run of it shows the failure
+    // if something fails, a script was read, and some run of it shows the failure
     ensures { IfOk result (λ b. b ≡ true
         → HasReadFailing (R.remaining from.old.reader) (R.remaining from.new.reader)) }
 {

@@ -14,7 +14,7 @@ use Rattle.mcs_explore_script.specs.UserLists.{user_of}
 abbrev pub last_entry : User → Option ℕ
 last_entry u = cond (is_program u.ops) None (elim u.again [ None ↦ Some (length u.entries - 1) | Some first ↦ None ])
 
--- an entry by its number from 1 on, as the number from 0; where there is none, the last
+-- an entry by its number from 1 on, as the number from 0; if there is none, the last
 abbrev pub entry_asked : Option ℕ → User → Option ℕ
 entry_asked None u = last_entry u
 entry_asked (Some number) u = Some (number - 1)

@@ -32,7 +32,7 @@ changed_by us (asked.Again e) = with_again us e.thread (e.number - 1)
 changed_by us (asked.Ruled rule) = ruled_by rule us
 changed_by us _ = us
 
--- so do all of which lines say it
+-- users changed by all lines that say so
 abbrev pub all_changed : List User → List AskedLine → List User
 all_changed us [] = us
 all_changed us (q ∷ qs) = all_changed (changed_by us q.asked) qs

@@ -1,15 +1,15 @@
-//! Scripts of exploring. Of a script of users: its boot, the entries of its users, the names of its
-//! objects, and what it asks of all orders. Of a book: its steps, as a script.
+//! Scripts for exploring. Reads a script of users: its boot, the entries of its users, the names of
+//! its objects, and its questions. Writes the steps of a book as a script.
 //!
 //! ```text
 //! source ── text ──> its bytes, the boot and the entries, as `mcssim run` reads them
 //!     ── marks ──> the names (`#@`), and the text of each entry
-//!     ── programs ──> what the lines `#! THREAD: STATEMENT` say, by `mcs_explore_programs`
-//!     ── questions ──> what the lines `#!` ask
-//!     ── users ──> a list of entries for each thread, the entry with which it goes on again, or
+//!     ── programs ──> the lines `#! THREAD: STATEMENT`, by `mcs_explore_programs`
+//!     ── questions ──> the other lines `#!`
+//!     ── users ──> a list of entries for each thread, the entry from which it repeats, or
 //!          its program
 //! a book ── steps ──> its boot and its steps, each with its answer
-//!     ── run_texts ──> the script that shows a run
+//!     ── run_texts ──> the script of a run
 //! ```
 #![tactic(auto)]
 

@@ -1,4 +1,4 @@
-//! Users that may not get stuck.
+//! Users that must not get stuck.
 ghost use Rattle.std.specs.Prelude.{◌≡◌, ◌++◌, IfOk, OnOk};
 ghost use Rattle.std.specs.List.{list_any};
 ghost use Rattle.mcs_explore_questions.specs.Asking.{is_of_waits};
@@ -10,17 +10,16 @@ use mcs_types::ObjId;
 use mcs_users::{UserList, Users};
 use std::alloc::Global;
 
-/// A user, and one of its entries, counted from 0: whether it can be answered yet. Without an
-/// entry, whether any of them can.
+/// A user, and one of its entries, counted from 0: can it still be answered? Without an entry: can
+/// any of them?
 #[derive(Clone, Copy, Drop)]
 pub struct Live {
     pub user: usize,
     pub entry: Option<usize>,
 }
 
-/// Returns the entry that can be answered in some order as long as a user is not stuck: the last
-/// one, which is answered after all others; none in particular where the user never ends, or goes
-/// on by a program.
+/// Returns the entry that some order can answer as long as the user is not stuck: the last one,
+/// which comes after all others; None if the user repeats entries or has a program.
 fn last_entry(list: &UserList) -> Option<usize>
     ensures { result ≡ last_entry list.now }
 {
@@ -33,8 +32,8 @@ fn last_entry(list: &UserList) -> Option<usize>
     }
 }
 
-/// Returns an entry, asked for by its number from 1 on, by its number from 0 on; the last where
-/// none is asked for.
+/// Returns an entry, counted from 0, that is asked about by its number from 1; the last one if no
+/// number is given.
 fn entry_asked(number: Option<usize>, list: &UserList) -> Option<usize>
     ensures { result ≡ entry_asked number list.now }
 {
@@ -44,7 +43,7 @@ fn entry_asked(number: Option<usize>, list: &UserList) -> Option<usize>
     }
 }
 
-/// Adds the user in a place, if there is one, as one that may not get stuck before this entry.
+/// Adds the user at an index, if there is one, as one that must not get stuck before this entry.
 fn push_live(
     lives: &mut Vec<Live>,
     users: &Users,
@@ -63,7 +62,7 @@ fn push_live(
     Ok(())
 }
 
-/// Adds what a question asks of users that may not get stuck.
+/// Adds the users that a question says must not get stuck.
 fn push_asked(lives: &mut Vec<Live>, users: &Users, asked: &Asked) -> Result<(), ExploreFault>
     ensures { OnOk result (lives.new.items ≡ lives.old.items ++ asked_live users.now asked.now) }
 {
@@ -81,7 +80,7 @@ fn push_asked(lives: &mut Vec<Live>, users: &Users, asked: &Asked) -> Result<(),
     }
 }
 
-/// Returns what the lines `live` ask, in their order.
+/// Returns what the lines `live` ask, in order.
 fn asked_lives(alloc: Global, users: &Users, asked: &[AskedLine]) -> Result<Vec<Live>, ExploreFault>
     ensures { IfOk result (λ lives. lives.items ≡ asked_lives users.now asked.now) }
 {
@@ -99,7 +98,7 @@ fn are_of_waits(asked: &[AskedLine], thread: ObjId) -> bool
     asked.iter().any(|line| line.asked.is_of_waits(thread))
 }
 
-/// Adds a user, by its number, of whose waits no question is.
+/// Adds a user, by its number, if no question is about its waits.
 fn push_other(
     lives: &mut Vec<Live>,
     asked: &[AskedLine],
@@ -117,8 +116,8 @@ fn push_other(
     Ok(())
 }
 
-/// Returns the users that may not get stuck: those of questions, then each of whose waits no
-/// question is. OutOfMemory where memory was refused.
+/// Returns the users that must not get stuck: those of questions, then all whose waits no question
+/// is about. `OutOfMemory` if an allocation fails.
 pub fn lives_of(
     alloc: Global,
     users: &Users,

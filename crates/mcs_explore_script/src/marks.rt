@@ -14,7 +14,8 @@ pub struct EntryText {
     pub text: Vec<u8>,
 }
 
-/// Returns the names that the lines of a text give. Fault Form where a line `#@` has not its form.
+/// Returns the names that the lines of a text give. Fault `Form` if a line `#@` does not have its
+/// form.
 pub fn read_names(alloc: Global, text: &[u8]) -> Result<Names, LabFault>
     ensures { IfOk result (λ names. names ≡ text_names text.now) }
 {
@@ -28,7 +29,7 @@ pub fn read_names(alloc: Global, text: &[u8]) -> Result<Names, LabFault>
     Ok(names)
 }
 
-/// Returns whether a line is that of an entry: it is not skipped, nor one of the boot.
+/// Returns whether a line is one of an entry: it is not skipped, and not one of the boot.
 fn is_entry(line: &[u8]) -> bool {
     if matches!(line, [] | [b'#' | b'=' | b'+', ..]) {
         return false;
@@ -55,7 +56,7 @@ fn after_two(line: &[u8]) -> &[u8] {
     rest
 }
 
-/// Returns the texts of the entries that a text says.
+/// Returns the texts of the entries of a text.
 pub fn entry_texts(
     alloc: Global,
     text: &[u8],

@@ -61,8 +61,8 @@ fn parts_of(line: &[u8]) -> Option<(&[u8], &[u8])> {
     }
 }
 
-/// Returns the place of the program of a thread, which begins here where it has none yet. HasUser
-/// where it has lines of a user.
+/// Returns the index of the program of a thread, which begins here if it has none yet. `HasUser` if
+/// it has lines of a user.
 fn place_of(
     alloc: Global,
     users: &Users,
@@ -86,7 +86,7 @@ fn place_of(
     Ok(all.len().saturating_sub(1))
 }
 
-/// Takes a line of a program, of which this is the number.
+/// Takes the program's line with this number.
 fn take_line(
     alloc: Global,
     there: There<'_>,
@@ -129,10 +129,11 @@ fn add_line(
     }
 }
 
-/// Adds the program whose lines were all taken. A fault of one that does not end there.
+/// Adds a program whose lines were all taken. Fails if the program does not end there.
 fn push_ended(programs: &mut Vec<Program>, lines: ProgramLines) -> Result<(), ExploreFault>
     ensures count { OnOk result (length programs.new.items ≡ length programs.old.items + 1) }
-    ensures each { OnOk result (All IsProgram programs.old.items → All IsProgram programs.new.items) }
+    ensures each { OnOk result
+        (All IsProgram programs.old.items → All IsProgram programs.new.items) }
 {
     match lines.end() {
         Ok(program) => {
@@ -143,7 +144,7 @@ fn push_ended(programs: &mut Vec<Program>, lines: ProgramLines) -> Result<(), Ex
     }
 }
 
-/// Returns the programs whose lines were all taken. A fault of one that does not end there.
+/// Returns the programs whose lines were all taken. Fails if one does not end there.
 fn ended(alloc: Global, all: Vec<ProgramLines>) -> Result<Vec<Program>, ExploreFault>
     ensures count { IfOk result (λ programs. length programs.items ≡ length all.items) }
     ensures each { IfOk result (λ programs. All IsProgram programs.items) }

@@ -18,7 +18,7 @@ pub struct AskedLine {
     pub line: u64,
 }
 
-/// Returns whether a line begins with `#!`.
+/// Returns whether a line asks something, that is, is no line of a program.
 fn is_marked(line: &[u8]) -> bool
     ensures { result ≡ is_marked line.now }
 {
@@ -35,7 +35,7 @@ fn is_question(line: &[u8]) -> bool
     is_marked(line) && !is_program_line(line)
 }
 
-/// Returns the text of a question and what it asks of a script.
+/// Returns the text of a question and its meaning for a script.
 fn parts_of(alloc: Global, there: There<'_>, line: &[u8]) -> Result<(Vec<u8>, Asked), QuestionFault>
     ensures { IfOk result (λ r. line_asks (scene_of there.entry) line.now ≡ Some (said_of r.1)) }
 {
@@ -44,8 +44,8 @@ fn parts_of(alloc: Global, there: There<'_>, line: &[u8]) -> Result<(Vec<u8>, As
     Ok((Vec::from_slice(alloc, text)?, asked))
 }
 
-/// Adds the question of a line, if it asks something. A fault where it has none of their forms, or
-/// names what is not there.
+/// Adds the question of a line, if it asks something. Fails if it has no form of a question, or
+/// names what does not exist.
 fn add_line(
     alloc: Global,
     there: There<'_>,
@@ -71,7 +71,7 @@ fn add_line(
     Ok(())
 }
 
-/// Returns what all lines of a text ask of a script.
+/// Returns the questions of all lines of a text about a script.
 pub fn read_questions(
     alloc: Global,
     there: There<'_>,

@@ -14,7 +14,7 @@ use mcs_trace::{Line, Sink, spell};
 use mcs_types::ObjId;
 use std::alloc::{AllocError, Global};
 
-/// Returns the fault of the program where a search or a run ended so.
+/// Returns the fault of the command for a fault of a search or a run.
 pub fn fault_of(fault: OrdersFault) -> LabFault {
     match fault {
         OrdersFault::BookFull => LabFault::BookFull,
@@ -22,7 +22,7 @@ pub fn fault_of(fault: OrdersFault) -> LabFault {
     }
 }
 
-/// Adds the lines that give the names. OutOfMemory where memory was refused.
+/// Adds the lines that give the names. `OutOfMemory` if an allocation fails.
 fn push_names(alloc: Global, text: &mut Vec<u8>, names: &Names) -> Result<(), LabFault>
     ensures { OnOk result (text.new.items ≡ text.old.items ++ names_text names.now) }
 {
@@ -33,7 +33,7 @@ fn push_names(alloc: Global, text: &mut Vec<u8>, names: &Names) -> Result<(), La
     Ok(())
 }
 
-/// Adds the line that gives a name, if one is given. The object is spelled in this line.
+/// Adds the line that gives a name, if the name is given; `line` is a buffer for the object's id.
 fn push_given(
     text: &mut Vec<u8>,
     line: &mut Line,
@@ -48,7 +48,7 @@ fn push_given(
     }
 }
 
-/// Adds the line that gives an object its name. The object is spelled in this line.
+/// Adds the line that gives an object its name; `line` is a buffer for the object's id.
 fn push_name(
     text: &mut Vec<u8>,
     line: &mut Line,
@@ -65,8 +65,8 @@ fn push_name(
     text.extend_from_slice(b"\n")
 }
 
-/// Returns a text with the boot and the steps of a book after it, each step with its answer.
-/// OutOfMemory where memory was refused.
+/// Appends the boot and the steps of a book to a text, each step with its answer. `OutOfMemory` if
+/// an allocation fails.
 fn with_steps(alloc: Global, text: Vec<u8>, book: &Book) -> Result<Vec<u8>, LabFault>
     ensures { IfOk result (λ v. v.items ≡ text.items ++ script_text book.now.book) }
 {
@@ -76,7 +76,7 @@ fn with_steps(alloc: Global, text: Vec<u8>, book: &Book) -> Result<Vec<u8>, LabF
 }
 
 /// Returns the script that shows a run: a comment, names, and the boot and the steps of the run's
-/// book, each step with its answer. OutOfMemory where memory was refused.
+/// book, each step with its answer. `OutOfMemory` if an allocation fails.
 pub fn run_text(
     alloc: Global,
     comment: &[u8],

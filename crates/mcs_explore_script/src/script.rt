@@ -1,4 +1,4 @@
-//! What a script of users says.
+//! The contents of a script of users.
 ghost use Rattle.std.specs.Prelude.{◌≡◌, map, IfOk};
 ghost use Rattle.mcs_text.specs.Reading.{lines_of};
 ghost use Rattle.mcs_explore_script.specs.Questions.{questions_from, said_by};
@@ -20,20 +20,20 @@ use mcs_users::Users;
 use std::alloc::Global;
 use std::io::Read;
 
-/// What a script of users says.
+/// The contents of a script of users.
 #[derive(Drop)]
 pub struct UserScript {
     pub boot: Boot,
     pub users: Users,
     pub texts: Vec<EntryText>,
     pub asked: Vec<AskedLine>,
-    /// What is asked of users that may get stuck: by the lines `live`, in their order, and then of
-    /// each user of which no line `idle` or `live` says anything.
+    /// The users that must not get stuck: those of the lines `live`, in order, and then each user
+    /// that no line `idle` or `live` names.
     pub lives: Vec<Live>,
     pub names: Names,
 }
 
-/// The users of a script, the text of each of their entries, and the names of those of programs.
+/// The users of a script, the texts of their entries, and the names of entries of programs.
 #[derive(Drop)]
 struct UserTexts {
     users: Users,
@@ -41,9 +41,8 @@ struct UserTexts {
     labels: Vec<Label>,
 }
 
-/// Reads the programs of a text, and returns its users with the texts of their entries. The
-/// faults are those of `entry_texts`, then of `read_programs`; OutOfMemory where memory was
-/// refused.
+/// Reads the programs of a text, and returns its users with the texts of their entries. The faults
+/// are those of `entry_texts`, then of `read_programs`; `OutOfMemory` if an allocation fails.
 fn read_users(
     alloc: Global,
     text: &[u8],
@@ -75,8 +74,8 @@ fn read_users(
     })
 }
 
-/// Reads what the lines of a text ask, which may name entries of any program. The faults of
-/// questions are in the order of their lines.
+/// Reads the questions of a text, which may name entries of any program. Faults come in the order
+/// of the lines.
 fn read_asked(
     alloc: Global,
     text: &[u8],
@@ -97,8 +96,8 @@ fn read_asked(
     read_questions(alloc, there, text)
 }
 
-/// Reads what a text of users says, with this boot and these entries. The faults are first those of
-/// names, then of programs, and then of questions.
+/// Reads the names, programs and questions of a script of users, whose boot and entries were read
+/// before. Their faults come in this order.
 fn read_said(alloc: Global, said: UsersText) -> Result<UserScript, ExploreFault>
     ensures boot { IfOk result (λ s. s.boot ≡ said.boot) }
     ensures says { IfOk result (λ s. SaysScript said.text.items said.entries.items s) }
@@ -130,8 +129,8 @@ fn read_said(alloc: Global, said: UsersText) -> Result<UserScript, ExploreFault>
     })
 }
 
-/// Reads a source to its end. The faults are first those of `mcssim run`, in the order of lines,
-/// then of names, of programs, and then of questions, which may name entries of any program.
+/// Reads a source to its end. The faults of `mcssim run` come first, in the order of lines, then
+/// those of names, of programs, and of questions, which may name entries of any program.
 pub fn read_script<R: Read>(alloc: Global, from: &mut Source<R>) -> Result<UserScript, ExploreFault>
     ensures { IfOk result (λ s. IsScript (R.remaining from.old.reader)
         (R.remaining from.new.reader) s) }

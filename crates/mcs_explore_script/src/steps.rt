@@ -42,8 +42,8 @@ fn put_script<W: Write>(sink: &mut Sink<W>, book: &Book)
     put_lines(sink, book);
 }
 
-/// Writes the boot and the steps of a book to a sink, each step with its answer. What the sink kept
-/// back is dropped first. OutOfMemory where the writer failed; then a part of them is written.
+/// Writes the boot and the steps of a book to a sink, each step with its answer. Bytes that the
+/// sink had buffered are dropped first. `OutOfMemory` if the writer failed; then a part is written.
 pub fn write_steps<W: Write>(sink: &mut Sink<W>, book: &Book) -> Result<(), LabFault>
     ensures { OnOk result (Writes W.contents sink.old sink.new (script_text book.now.book)) }
 {

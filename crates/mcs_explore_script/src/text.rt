@@ -1,4 +1,4 @@
-//! The bytes of a script, and what they say.
+//! The bytes of a script of users, with its boot and entries.
 ghost use Rattle.std.specs.Prelude.{◌≡◌, ◌++◌, IfErr, IfOk, None, OnOk};
 ghost use Rattle.mcs_explore_script.specs.Texts.{IsText};
 ghost use Rattle.mcs_sim.specs.Running.{EndsUsers};
@@ -11,7 +11,7 @@ use mcs_text::UserEntry;
 use std::alloc::Global;
 use std::io::Read;
 
-/// A text, and the boot and the entries that it says.
+/// A text, with its boot and entries.
 #[derive(Drop)]
 pub struct UsersText {
     pub text: Vec<u8>,
@@ -19,7 +19,7 @@ pub struct UsersText {
     pub entries: Vec<UserEntry>,
 }
 
-/// Adds a piece to a text. OutOfMemory where memory was refused.
+/// Adds a piece to a text. `OutOfMemory` if an allocation fails.
 fn keep(text: &mut Vec<u8>, piece: &[u8]) -> Result<(), SimFault>
     ensures kept { OnOk result (text.new.items ≡ text.old.items ++ piece.now) }
     ensures fault { IfErr result (λ e. e ≡ SimFault.OutOfMemory) }
@@ -30,9 +30,9 @@ fn keep(text: &mut Vec<u8>, piece: &[u8]) -> Result<(), SimFault>
     }
 }
 
-/// Reads a source to its end, or to a fault: of a line, as `mcssim run` has them, Read where a read
-/// failed, OutOfMemory where memory was refused. A fault of a line comes with the piece of at most
-/// 4,096 bytes in which it is.
+/// Reads a source to its end, or to a fault: of a line, as `mcssim run` has them, `Read` if a read
+/// failed, `OutOfMemory` if an allocation fails. A fault of a line comes with the piece of at most
+/// 4,096 bytes that has it.
 pub fn read_text<R: Read>(alloc: Global, from: &mut Source<R>) -> Result<UsersText, SimFault>
     ensures ok { IfOk result (λ t. IsText (R.remaining from.old.reader)
         (R.remaining from.new.reader) t.text.items t.boot t.entries.items) }

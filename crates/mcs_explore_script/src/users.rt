@@ -15,7 +15,7 @@ use mcs_types::{ObjId, OutOfMemory};
 use mcs_users::Users;
 use std::alloc::Global;
 
-/// Returns the users of these entries. OutOfMemory where memory was refused.
+/// Returns the users of these entries. `OutOfMemory` if an allocation fails.
 pub fn users_of(alloc: Global, entries: Vec<UserEntry>) -> Result<Users, OutOfMemory>
     ensures { IfOk result (λ u. u ≡ with_entries [] entries.items) }
 {
@@ -26,7 +26,7 @@ pub fn users_of(alloc: Global, entries: Vec<UserEntry>) -> Result<Users, OutOfMe
     Ok(users)
 }
 
-/// Adds an entry of a program, and its text. OutOfMemory where memory was refused.
+/// Adds an entry of a program, and its text. `OutOfMemory` if an allocation fails.
 fn add_entry(
     users: &mut Users,
     texts: &mut Vec<EntryText>,
@@ -43,7 +43,7 @@ fn add_entry(
     }
 }
 
-/// Adds the entries of a program, and their texts. OutOfMemory where memory was refused.
+/// Adds the entries of a program, and their texts. `OutOfMemory` if an allocation fails.
 fn add_entries(
     users: &mut Users,
     texts: &mut Vec<EntryText>,
@@ -58,7 +58,7 @@ fn add_entries(
     Ok(())
 }
 
-/// Adds a label behind others. OutOfMemory where memory was refused.
+/// Appends a label. `OutOfMemory` if an allocation fails.
 fn add_label(all: &mut Vec<Label>, label: Label) -> Result<(), OutOfMemory>
     ensures { OnOk result (all.new.items ≡ all.old.items ++ label ∷ []) }
 {
@@ -68,7 +68,7 @@ fn add_label(all: &mut Vec<Label>, label: Label) -> Result<(), OutOfMemory>
     }
 }
 
-/// Adds labels behind others. OutOfMemory where memory was refused.
+/// Appends labels. `OutOfMemory` if an allocation fails.
 fn add_labels(all: &mut Vec<Label>, more: Vec<Label>) -> Result<(), OutOfMemory>
     ensures { OnOk result (all.new.items ≡ all.old.items ++ more.items) }
 {
@@ -78,7 +78,7 @@ fn add_labels(all: &mut Vec<Label>, more: Vec<Label>) -> Result<(), OutOfMemory>
     Ok(())
 }
 
-/// Adds a program, the texts of its entries, and their names. OutOfMemory where memory was refused.
+/// Adds a program, the texts of its entries, and their names. `OutOfMemory` if an allocation fails.
 fn add_program(
     users: &mut Users,
     texts: &mut Vec<EntryText>,
@@ -101,8 +101,8 @@ fn add_program(
     Ok(())
 }
 
-/// Adds programs, the texts of their entries, and their names. OutOfMemory where memory was
-/// refused.
+/// Adds programs, the texts of their entries, and their names. `OutOfMemory` if an allocation
+/// fails.
 pub fn add_programs(
     users: &mut Users,
     texts: &mut Vec<EntryText>,
@@ -119,7 +119,8 @@ pub fn add_programs(
     Ok(())
 }
 
-/// Lets all users go by a rule. That of what is told once is for the programs of all.
+/// Makes all users follow a rule. The rule of entries answered once works by giving all users
+/// programs.
 fn set_rule(users: &mut Users, rule: Rule)
     ensures { users.new ≡ ruled_by rule users.old }
 {
@@ -129,7 +130,7 @@ fn set_rule(users: &mut Users, rule: Rule)
     }
 }
 
-/// Lets a list go on again, or all users go by a rule, where a line says so.
+/// Makes a list repeat, or all users follow a rule, if a line says so.
 fn change(users: &mut Users, asked: &Asked)
     ensures { users.new ≡ changed_by users.old asked.now }
 {
@@ -147,8 +148,8 @@ fn change(users: &mut Users, asked: &Asked)
     }
 }
 
-/// Lets lists of users go on again, and all users go by schedules, where lines say so. AgainTwice
-/// where a list goes on again already.
+/// Makes lists of users repeat, and all users follow schedules, if lines say so. `AgainTwice` if a
+/// list repeats already.
 fn change_all(alloc: Global, users: &mut Users, asked: &[AskedLine]) -> Result<(), ExploreFault>
     ensures { OnOk result (users.new ≡ all_changed users.old asked.now) }
 {
@@ -161,7 +162,7 @@ fn change_all(alloc: Global, users: &mut Users, asked: &[AskedLine]) -> Result<(
     Ok(())
 }
 
-/// Returns whether a line lets no user give an entry again that was answered.
+/// Returns whether a line says that no user repeats an answered entry.
 fn tells_once(asked: &Asked) -> bool
     ensures { result ≡ tells_once asked.now }
 {
@@ -182,15 +183,15 @@ fn tells_once(asked: &Asked) -> bool
     }
 }
 
-/// Returns whether one of these lines does.
+/// Returns whether one of these lines says that no user repeats an answered entry.
 fn any_tells_once(asked: &[AskedLine]) -> bool
     ensures { result ≡ list_any (λ q. tells_once q.asked) asked.now }
 {
     asked.iter().any(|line| tells_once(&line.asked))
 }
 
-/// Returns users that go by what all lines say of them. AgainTwice where a list goes on again
-/// already; OutOfMemory where memory was refused.
+/// Returns users that follow what all lines say. `AgainTwice` if a list repeats already;
+/// `OutOfMemory` if an allocation fails.
 pub fn ruled(alloc: Global, users: Users, asked: &[AskedLine]) -> Result<Users, ExploreFault>
     ensures { IfOk result (λ u. u ≡ ruled users asked.now) }
 {
@@ -205,7 +206,7 @@ pub fn ruled(alloc: Global, users: Users, asked: &[AskedLine]) -> Result<Users, 
     }
 }
 
-/// Whether two rules are of one kind.
+/// Returns whether two rules are of one kind.
 fn are_of_one_kind(one: Rule, other: Rule) -> bool {
     match (one, other) {
         (Rule::By(_), Rule::By(_)) | (Rule::ToldOnce, Rule::ToldOnce) => true,
@@ -229,7 +230,7 @@ fn rule_of(line: &AskedLine) -> Option<Rule> {
     }
 }
 
-/// Fails with RuleTwice where a line sets a rule of a kind that one before it set.
+/// Fails with `RuleTwice` if a line sets a rule of a kind that an earlier line set.
 pub fn rules_once(asked: &[AskedLine]) -> Result<(), ExploreFault> {
     for (place, line) in asked.iter().enumerate() {
         let Some(rule) = rule_of(line) else {
@@ -243,7 +244,7 @@ pub fn rules_once(asked: &[AskedLine]) -> Result<(), ExploreFault> {
     Ok(())
 }
 
-/// Fails with ComesAgain where a question is about the first time of what comes again.
+/// Fails with `ComesAgain` if a question is about the first time of something that repeats.
 pub fn come_once(alloc: Global, users: &Users, asked: &[AskedLine]) -> Result<(), ExploreFault> {
     for line in asked {
         if let Err(why) = comes_once(alloc, users, &line.asked) {

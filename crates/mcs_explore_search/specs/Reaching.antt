@@ -51,7 +51,7 @@ unmarked marks = sum_by (λ b. from_bool (not b)) marks
 abbrev pub IsShut : List Bool → Edge → Type 0
 IsShut marks e = is_marked marks e.to ≡ true → is_marked marks e.from ≡ true
 
--- marks after the last n edges were gone through, which has added so many
+-- marks after the last n edges were gone through, which has added this many
 pub record IsSweeping (edges : List Edge) (old new : List Bool) (added n : ℕ) : Type 0 where
   pub long : length new ≡ length old
   pub kept : (i : ℕ) → is_marked old i ≡ true → is_marked new i ≡ true

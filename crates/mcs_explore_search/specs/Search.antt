@@ -28,7 +28,7 @@ abbrev pub listed : {L : Type 0} → Option L → List L
 listed None = []
 listed (Some l) = l ∷ []
 
--- the labels along so many parents from a place, the last of them first
+-- the labels along this many parents from a place, the last of them first
 abbrev pub path_back : {K L : Type 0} → Entries K L → ℕ → ℕ → List L
 path_back E i zero = []
 path_back E i (suc n) = path_back E (parent_at E i) n ++ listed (label_at E i)
@@ -46,7 +46,7 @@ paths_below E (suc n) = paths_below E n ++ path_of E n ∷ []
 abbrev pub Same : {K : Type 0} → (K → K → Bool) → K → K → Type 0
 Same eq k c = eq k c ≡ true
 
--- a key is there, and was found by at most so many steps
+-- a key is there, and was found by at most this many steps
 pub record IsFound {K L : Type 0} (eq : K → K → Bool) (E : Entries K L) (k : K) (n : ℕ) : Type 0 where
   pub place : ℕ
   pub other : K

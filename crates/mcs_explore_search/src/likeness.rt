@@ -1,4 +1,4 @@
-//! Which visits reach all that runs reach (own).
+//! When visited states cover the ends of all runs (own).
 ghost use Rattle.std.specs.Prelude.{ℕ, List};
 ghost use Rattle.mcs_explore_search.specs.Closure.{AreFar, IsClosed, IsClosedTo, IsLikeness, IsVisited, Visit};
 ghost use Rattle.mcs_explore_search.specs.Paths.{Run};
@@ -15,8 +15,8 @@ pub trait Likeness {
         ensures { IsLikeness Step Like };
 }
 
-/// Proves that, where steps from what was visited lead to states that are like visited ones, every
-/// run ends in a state that is like one that was visited, in no more steps.
+/// Proves that, if steps from visited states lead to states that are like visited ones, every run
+/// ends in a state that is like a visited one, which took no more steps.
 pub fn every_run<L: Likeness>()
     ghost at: { L.State × List (Visit L.State) }
     requires { IsClosed L.Step L.Like at.0 at.1 }
@@ -25,8 +25,8 @@ pub fn every_run<L: Likeness>()
     L::is_likeness();
 }
 
-/// Proves the same where steps lead so from the first at.1 visited ones alone: every run ends so
-/// that is no longer than each of the other visits is deep.
+/// Proves the same if only the first at.1 visited states were expanded: for every run that is no
+/// longer than each of the other visits is deep.
 pub fn near_run<L: Likeness>()
     ghost at: { L.State × ℕ × List (Visit L.State) }
     requires { IsClosedTo L.Step L.Like at.0 at.1 at.2 }

@@ -1,4 +1,4 @@
-//! From which places edges lead on to marked ones (own).
+//! Reachability: from which places paths lead to marked ones (own).
 ghost use Rattle.std.specs.Prelude.{◌≡◌, ◌<◌, length};
 ghost use Rattle.std.specs.Int.{from_bool};
 ghost use Rattle.mcs_explore_search.specs.Reaching.{AreAllLed, AreWithin, IsSweeping, is_marked, joins, marked};
@@ -15,8 +15,8 @@ fn is_marked(marks: &[bool], place: u32) -> bool
     }
 }
 
-/// Marks the place that an edge comes from, where it is not marked and the edge leads to a marked
-/// one. Returns how many that adds.
+/// Marks the source of an edge, if the edge leads to a marked place and the source is not marked.
+/// Returns how many marks that adds.
 fn mark(edge: Edge, marks: &mut Vec<bool>) -> usize
     requires { edge.from < length marks.old.items }
     ensures marks { marks.new.items ≡ marked edge marks.old.items }
@@ -29,8 +29,8 @@ fn mark(edge: Edge, marks: &mut Vec<bool>) -> usize
     usize::from(is_new)
 }
 
-/// Marks each place from which an edge leads to a marked one, the last edge first, and returns how
-/// many that adds.
+/// Marks the source of each edge to a marked place, the last edge first, and returns how many marks
+/// that adds.
 fn sweep(edges: &[Edge], marks: &mut Vec<bool>) -> usize
     requires { AreWithin edges.now (length marks.old.items) }
     ensures { IsSweeping edges.now marks.old.items marks.new.items result (length edges.now) }
@@ -45,7 +45,7 @@ fn sweep(edges: &[Edge], marks: &mut Vec<bool>) -> usize
     added
 }
 
-/// Marks all places from which edges lead on to marked ones.
+/// Marks all places from which paths lead to marked ones.
 #[tactic(auto, using(crate::proofs::Marks::all_led))]
 pub fn mark_all_led(edges: &[Edge], marks: &mut Vec<bool>)
     requires { AreWithin edges.now (length marks.old.items) }

@@ -9,8 +9,8 @@ use indexmap::IndexMap;
 use std::alloc::{AllocError, Global};
 use std::hash::Hash;
 
-/// A system: its states, steps between them with labels, and keys of states. It may note of its
-/// states what it needs to give keys, and tell someone what it sees.
+/// A system to search: its states, labelled steps between them, and keys of states. It may collect
+/// what it needs for keys, and report what it sees.
 pub trait System {
     // the start has the default one, which is in no path
     type Label: Copy + Default + Drop;
@@ -26,16 +26,16 @@ pub trait System {
     // a label leads from a state to another
     ghost Leads: { Self → Self.Label → State → State → Type 0 };
 
-    // no later step tells two states apart
+    // no later step can tell two states apart
     ghost Like: { Self → State → State → Type 0 };
 
-    // the key of a state, by what was noted so far
+    // the key of a state, by the notes so far
     ghost IsKey: { Self → State → Self.Key → Type 0 };
 
-    // it was asked for the steps from the states to which these paths lead, in this order
+    // it was asked for the steps from the states that these paths reach, in this order
     ghost HasSeen: { Self → List (List Self.Label) → Type 0 };
 
-    // the same system, which has noted more
+    // the same system with more notes
     ghost Later: { Self → Self → Type 0 };
 
     /// Returns the key of the start. A fault ends the search.
@@ -44,10 +44,10 @@ pub trait System {
         ensures key { IfOk result (λ k. IsKey self.new (start self.new) k) }
         ensures seen { OnOk result (HasSeen self.old [] → HasSeen self.new []) };
 
-    /// Returns the steps from the state to which a path of labels leads from the start: of each its
-    /// label and the key of where it leads. The state is the one in this place of all that were
-    /// found. A fault ends the search. The path of the state that comes next is a hint: the system
-    /// may keep what both paths have.
+    /// Returns the steps from the state that a path of labels reaches from the start: for each its
+    /// label and the key of the state after it. `place` is the state's index in the order of
+    /// discovery. A fault ends the search. The path of the next state is a hint: the system may
+    /// cache what both paths share.
     fn nexts(
         &mut self,
         alloc: Global,
@@ -63,7 +63,7 @@ pub trait System {
         ensures seen { OnOk result ((paths : List (List Self.Label)) → HasSeen self.old paths
             → length paths ≡ place → HasSeen self.new (paths ++ path.now ∷ [])) };
 
-    /// Returns whether the search goes on after a state was expanded.
+    /// Returns whether the search continues after a state was expanded.
     fn goes_on(&self) -> bool {
         true
     }
@@ -83,18 +83,18 @@ pub trait System {
     ghost keeps_keys: { (m n : Self) → Later m n
         → (s : State) (k : Self.Key) → IsKey m s k → IsKey n s k };
 
-    // states that paths reach are alike where they have one key
+    // states that paths reach are alike if they have one key
     ghost alike: { (m : Self) (p q : List Self.Label) (s t : State) (k : Self.Key)
         → Path (Leads m) (start m) p s → Path (Leads m) (start m) q t
         → IsKey m s k → IsKey m t k → Like m s t };
 
-    // a key that is compared as equal to a key of a state is one too
+    // a key that compares equal to a key of a state is one too
     ghost as_good: { (m : Self) (s : State) (k c : Self.Key)
         → IsTrue (Self.Key.eq k c) → IsKey m s k → IsKey m s c };
 }
 
-/// How a state was found first: from which place, by which label, and so by how many steps. The
-/// start is found by none: its own place and its label say nothing.
+/// How a state was found first: from which state, by which label, and after how many steps. For the
+/// start, the parent and the label mean nothing.
 #[derive(Clone, Copy, Drop)]
 pub struct Found<L> {
     pub parent: u32,
@@ -102,27 +102,27 @@ pub struct Found<L> {
     pub label: L,
 }
 
-/// A step from the state in one place to that in another.
+/// A step from the state at one index to that at another.
 #[derive(Clone, Copy, Drop)]
 pub struct Edge {
     pub from: u32,
     pub to: u32,
 }
 
-// one for each step that was found: places of 32 bits halve what they take
+// one for each step found: 32-bit indices halve their size
 const _: () = prove!(size_of::<Edge>() == 8);
 
-/// How far a search goes.
+/// The limits of a search.
 #[derive(Clone, Copy, Drop)]
 pub struct Budget {
-    /// How many states may be found before it expands no more.
+    /// After how many discovered states it expands no more.
     pub states: usize,
-    /// From which number of steps on it expands no state.
+    /// At which number of steps from the start it expands no state.
     pub depth: usize,
 }
 
-/// The states that were found, the nearest first, each by its key, how many of them were expanded,
-/// the steps from these, and whether the system stopped the search.
+/// The discovered states by their keys, nearest first; how many were expanded; the steps from
+/// these; and whether the system stopped the search.
 #[derive(Drop)]
 pub struct Search<K: Eq + Hash + Drop, L: Copy + Drop> {
     pub map: IndexMap<K, Found<L>>,
@@ -131,8 +131,7 @@ pub struct Search<K: Eq + Hash + Drop, L: Copy + Drop> {
     pub is_stopped: bool,
 }
 
-/// Notes a key, if it is not there yet, and returns its place. An AllocError where memory was
-/// refused.
+/// Adds a key, if it is new, and returns its index. Fails if an allocation fails.
 fn add<K: Eq + Hash + Drop, L: Copy + Drop>(
     map: &mut IndexMap<K, Found<L>>,
     key: K,
@@ -151,8 +150,8 @@ fn add<K: Eq + Hash + Drop, L: Copy + Drop>(
     }
 }
 
-/// Adds the edge between two places. An AllocError where memory was refused, or a place has more
-/// than 32 bits.
+/// Adds the edge between two states. Fails if an allocation fails, or an index has more than 32
+/// bits.
 fn push_edge(edges: &mut Vec<Edge>, from: usize, to: usize) -> Result<(), AllocError>
     ensures { OnOk result (edges.new.items
         ≡ edges.old.items ++ (record { from = from; to = to }) ∷ []) }
@@ -174,21 +173,21 @@ fn push_label<L: Copy + Drop>(labels: &mut Vec<L>, label: Option<L>) -> Result<(
 }
 
 impl<K: Eq + Hash + Drop, L: Copy + Drop> Search<K, L> {
-    /// How many states were found.
+    /// Returns how many states were found.
     pub fn states(&self) -> usize
         ensures { result ≡ length self.now.map.entries }
     {
         self.map.len()
     }
 
-    /// Whether all were expanded.
+    /// Returns whether all were expanded.
     pub fn is_whole(&self) -> bool
         ensures { IsTrue result ↔ (length self.now.map.entries ≤ self.now.done) }
     {
         self.map.len() <= self.done
     }
 
-    /// By how many steps the state in a place was found.
+    /// Returns by how many steps the state at an index was found.
     pub fn depth(&self, place: usize) -> usize
         ensures { result ≡ depth_at self.now.map.entries place }
     {
@@ -198,14 +197,14 @@ impl<K: Eq + Hash + Drop, L: Copy + Drop> Search<K, L> {
         }
     }
 
-    /// Returns the label by which the state in a place was found; None where no state has it.
+    /// Returns the label by which the state at an index was found; None if there is no such state.
     pub fn label(&self, place: usize) -> Option<L>
         ensures { result ≡ label_at self.now.map.entries place }
     {
         self.back(place).0
     }
 
-    /// The label by which the state in a place was found, and the place of its parent.
+    /// The label by which the state at an index was found, and the place of its parent.
     fn back(&self, place: usize) -> (Option<L>, usize)
         ensures label { result.0 ≡ label_at self.now.map.entries place }
         ensures parent { result.1 ≡ parent_at self.now.map.entries place }
@@ -216,7 +215,7 @@ impl<K: Eq + Hash + Drop, L: Copy + Drop> Search<K, L> {
         }
     }
 
-    /// The labels from the start to the state in a place. An AllocError where memory was refused.
+    /// The labels from the start to the state at an index. An `AllocError` if an allocation fails.
     pub fn path(&self, alloc: Global, place: usize) -> Result<Vec<L>, AllocError>
         ensures { IfOk result (λ labels. labels.items ≡ path_of self.now.map.entries place) }
     {
@@ -231,7 +230,8 @@ impl<K: Eq + Hash + Drop, L: Copy + Drop> Search<K, L> {
         Ok(labels)
     }
 
-    /// Whether there is a state to expand, no budget was reached, and the system did not stop it.
+    /// Returns whether there is a state to expand, no limit was reached, and the system did not
+    /// stop the search.
     fn goes_on(&self, budget: Budget) -> bool
         ensures more { IsTrue result → self.now.done < length self.now.map.entries }
         ensures room { IsTrue result → self.now.done + 1 < 2 ^ 64 }
@@ -248,7 +248,7 @@ impl<K: Eq + Hash + Drop, L: Copy + Drop> Search<K, L> {
     }
 }
 
-/// A number of 32 bits. An AllocError where it has more.
+/// A number of 32 bits. Fails if it has more.
 fn narrow(number: usize) -> Result<u32, AllocError>
     ensures { IfOk result (λ n. n ≡ number) }
 {
@@ -258,8 +258,8 @@ fn narrow(number: usize) -> Result<u32, AllocError>
     }
 }
 
-/// How a state is found by a label after the one in a place, which has this depth. An AllocError
-/// where a number has more than 32 bits.
+/// Returns how a state is found by a label from the state at an index with this depth. Fails if a
+/// number has more than 32 bits.
 fn found_behind<L: Copy + Drop>(
     place: usize,
     depth: usize,
@@ -279,7 +279,7 @@ fn found_behind<L: Copy + Drop>(
     })
 }
 
-/// Notes all steps from the state in a place, which has this depth, and where they lead.
+/// Adds all steps from the state at an index with this depth, and the states that they lead to.
 fn add_all<M: System>(
     map: &mut IndexMap<M::Key, Found<M::Label>>,
     edges: &mut Vec<Edge>,
@@ -303,7 +303,7 @@ fn add_all<M: System>(
     Ok(())
 }
 
-/// Begins a search that has found its start alone.
+/// Begins a search that has found only its start.
 fn begin<M: System>(alloc: Global, system: &mut M) -> Result<Search<M::Key, M::Label>, M::Fault>
     ensures later { M.Later system.old system.new }
     ensures begun { IfOk result (λ f. f.done ≡ 0) }
@@ -329,7 +329,7 @@ fn begin<M: System>(alloc: Global, system: &mut M) -> Result<Search<M::Key, M::L
     })
 }
 
-/// Returns the steps from the state in a place.
+/// Returns the steps from the state at an index.
 fn nexts_of<M: System>(
     alloc: Global,
     system: &mut M,
@@ -352,7 +352,7 @@ fn nexts_of<M: System>(
     Ok(nexts)
 }
 
-/// Expands the earliest state that was not expanded.
+/// Expands the earliest state that was not expanded yet.
 fn look_behind<M: System>(
     alloc: Global,
     system: &mut M,
@@ -383,10 +383,9 @@ fn look_behind<M: System>(
     Ok(())
 }
 
-/// Expands one state after another, the nearest first, until none is left, a budget is reached, or
-/// the system stops it.
-/// The errors are the faults of the system, and its fault of an AllocError where memory was refused
-/// or it would expand the state in place 2^32.
+/// Expands one state after another, nearest first, until none is left, a limit is reached, or the
+/// system stops it. The errors are the faults of the system; a failed allocation, or a state at
+/// index 2^32, becomes the system's fault for an AllocError.
 pub fn explore<M: System>(
     alloc: Global,
     system: &mut M,
@@ -403,31 +402,31 @@ pub fn explore<M: System>(
     // before the last there were fewer than the states
     ensures near { IfOk result (λ f. AreNear budget.depth f.done f.map.entries) }
     ensures few { IfOk result (λ f. AreFoundLast budget.states f.done f.map.entries) }
-    // a step from a state that was expanded leads to one that is like a visited one
+    // a step from an expanded state leads to one that is like a visited one
     ensures closed { IfOk result (λ f. IsClosedBelow (M.Leads system.old) (M.Like system.old)
         (M.IsKey system.new) (M.start system.old) f.done f.map.entries) }
     // once all were expanded, each step does
     ensures whole { IfOk result (λ f. length f.map.entries ≤ f.done
         → IsWhole (M.Leads system.old) (M.Like system.old)
         (M.IsKey system.new) (M.start system.old) f.map.entries) }
-    // each edge is a step between two of them, but for likeness, and each step from an expanded one
+    // each edge is a step between two of them, up to likeness, and each step from an expanded one
     // has its edge
     ensures graph { IfOk result (λ f. IsGraph (M.Leads system.old) (M.Like system.old)
         (M.IsKey system.new) (M.start system.old) f.done f.map.entries f.edges.items) }
-    // where alike states have one key, no run to a state with the key of an entry is shorter
+    // if alike states have one key, no run to a state with the key of an entry is shorter
     ensures least { IfOk result (λ f. IsLikeness (Steps (M.Leads system.old)) (M.Like system.old)
         → HaveOneKey M.Key.eq (M.Like system.old) (M.IsKey system.new)
         → AreLeast (M.Leads system.old) (M.IsKey system.new) (M.start system.old) f.map.entries) }
-    // and once all were expanded, each key of a state that a run ends in was found
+    // and once all were expanded, the key of each state that a run reaches was found
     ensures all { IfOk result (λ f. length f.map.entries ≤ f.done
         → IsLikeness (Steps (M.Leads system.old)) (M.Like system.old)
         → HaveOneKey M.Key.eq (M.Like system.old) (M.IsKey system.new)
         → AreAllFound M.Key.eq (M.Leads system.old) (M.IsKey system.new)
         (M.start system.old) f.map.entries) }
-    // it ends there, by the budget, or as the system stops it
+    // it ends there, by the budget, or because the system stops it
     ensures budget { IfOk result (λ f. (length f.map.entries ≤ f.done)
         ⊎ IsSpent budget.states budget.depth f.done f.map.entries ⊎ (f.is_stopped ≡ true)) }
-    // the system was asked for the steps from each state that was expanded, in their order
+    // the system was asked for the steps from each expanded state, in order
     ensures seen { IfOk result (λ f. M.HasSeen system.old []
         → M.HasSeen system.new (paths_below f.map.entries f.done)) }
 {

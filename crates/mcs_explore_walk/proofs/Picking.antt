@@ -144,7 +144,7 @@ module _ (users : List User) (g : Going) (n : ℕ) (offer : Offer) (k : Pick) (u
         (λ v p can. subst (λ t. GoesBefore (log_of g.book) offer.thread t) (one-thread users g offer.core n offer.pick offer.thread v p is.0 can) (before-self (log_of g.book) offer.thread)),
   )
 
--- or where there was none
+-- or if there was none
 pub is_first : (users : List User) (g : Going) (n : ℕ) (offer : Offer) → IsOffer users g n (Some offer) → IsBestBelow users g offer.core n None → IsBestBelow users g offer.core (n + 1) (Some offer.pick)
 is_first users g n offer is none = (
   offer.thread,

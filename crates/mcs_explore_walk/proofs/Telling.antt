@@ -75,7 +75,7 @@ put-next rs own users ps i p now at is =
     let more : suc i ≡ i + 1 = omega (arith) in
     put-on rs own i users ps i p now at is ∙ ap (λ n. take n (set ps i now) ++ all_told rs own (i + 1) users (drop n (set ps i now))) more
 
--- nothing that reached threads moves nobody
+-- nothing that reached threads moves no thread
 nobody-told : (own i : ℕ) (users : List User) (ps : List Position) → all_told [] own i users ps ≡ ps
 nobody-told own i users [] = refl
 nobody-told own i users (p ∷ ps) = ap (λ (q : Position). q ∷ all_told [] own (i + 1) users ps) (go (i == own) (slice_get users i)) ∙ ap (λ qs. p ∷ qs) (nobody-told own (i + 1) users ps)

@@ -49,12 +49,12 @@ IsBestBelow users g core n None = (i : ℕ) (u : User) (p : Position) → i < n 
 IsBestBelow users g core n (Some k) = (t : ObjId) × Gives users g core k.user k t
     × ((i : ℕ) (u : User) (p : Position) → i < n → CanGive users g core i u p → GoesBefore (log_of g.book) t u.thread)
 
--- and on each of all cores
+-- for each core the best that the users below n can give there
 pub record AreBestBelow (users : List User) (g : Going) (n : ℕ) (picks : List (Option Pick)) : Type 0 where
   pub each : (core : CoreId) (k : Option Pick) → slice_get picks core.0 ≡ Some k → IsBestBelow users g core n k
 
--- it is the due entry of a user who can give one, and whose thread goes before those of all others
--- who can
+-- a pick is the due entry of a user who can give one, and whose thread goes before those of all
+-- others who can
 pub record IsBest (users : List User) (g : Going) (core : CoreId) (k : Pick) : Type 0 where
   pub user : User
   pub place : Position
@@ -62,7 +62,7 @@ pub record IsBest (users : List User) (g : Going) (core : CoreId) (k : Pick) : T
   pub number : k.number ≡ due (log_of g.book) user place
   pub best : (i : ℕ) (v : User) (q : Position) → CanGive users g core i v q → GoesBefore (log_of g.book) user.thread v.thread
 
--- the best of a core; none where nobody can give an entry there
+-- the best of a core; none where no thread can give an entry there
 abbrev pub IsBestOf : List User → Going → CoreId → Option Pick → Type 0
 IsBestOf users g core None = (i : ℕ) (u : User) (p : Position) → CanGive users g core i u p → ⊥
 IsBestOf users g core (Some k) = IsBest users g core k
@@ -95,7 +95,7 @@ IsLimit f = (f ≡ BookFull) ⊎ (f ≡ OutOfMemory)
 abbrev pub left_stale : ℕ → ℕ → List (List Pick) → ℕ → List Pick → List Pick
 left_stale core user picks i stale = cond (i == core) [] (without_user user (with_picks (picks_at picks i) stale))
 
--- it is among what a core picks, or picked before
+-- an entry is among what a core picks, or picked before
 abbrev pub IsPicked : Going → List (List Pick) → CoreId → Pick → Type 0
 IsPicked g picks core k = Contains (picks_at picks core.0) k ⊎ IsStale g core k
 

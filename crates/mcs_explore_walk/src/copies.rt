@@ -1,11 +1,11 @@
-//! Lists that are copied.
+//! Copies of lists.
 ghost use Rattle.std.specs.Prelude.{◌≡◌, IfOk};
 
 use mcs_types::OutOfMemory;
 use mcs_users::{Picks, push};
 use std::alloc::Global;
 
-/// The same picks of each core once more. OutOfMemory where memory was refused.
+/// Returns a copy of the picks of each core. `OutOfMemory` if an allocation fails.
 pub(crate) fn copy_all(alloc: Global, all: &[Picks]) -> Result<Vec<Picks>, OutOfMemory>
     ensures { IfOk result (λ v. v.items ≡ all.now) }
 {

@@ -8,7 +8,7 @@ use std::alloc::{AllocError, AllocFailed};
 /// Why a search ends before its budget.
 #[derive(Clone, Copy, PartialEq, Eq, Debug)]
 pub enum OrdersFault {
-    /// The book was full at an entry that would have been let in.
+    /// The book was full at an entry that would have been accepted.
     BookFull,
     /// Memory was refused.
     OutOfMemory,
@@ -32,7 +32,7 @@ impl<T: Drop> From<AllocFailed<T>> for OrdersFault {
     }
 }
 
-/// Why an entry was skipped whose thread may enter.
+/// Returns why an entry was skipped although its thread may enter.
 pub(crate) fn limit_of(fault: EnterFault) -> OrdersFault
     requires { IsLimit fault }
 {

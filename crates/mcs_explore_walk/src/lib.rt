@@ -1,6 +1,5 @@
-//! One way through the orders in which the entries of users can come: a kernel, how far each user
-//! is, and what each core may enter. Each turn is one that the rule of a turn has, so what is
-//! reached is a run (own).
+//! One execution of the users' entries: a kernel, the position of each user, and what each core may
+//! enter. The rule allows each of its turns, so it is a run (own).
 #![tactic(auto)]
 
 mod copies;

@@ -1,4 +1,4 @@
-//! What a line brings to threads whose entries wait, and where their users go on.
+//! What a line brings to threads whose entries wait, and where their users continue.
 ghost use Rattle.std.specs.Prelude.{◌≡◌, ◌<◌, IfSome, None, length, slice_get};
 ghost use Rattle.mcs_types.specs.declared.entry.Answer.TheVariants as answer;
 ghost use Rattle.mcs_packing.specs.Packing.{IsMessageAt, content_at};
@@ -16,7 +16,7 @@ use mcs_types::{Badge, Mode, ObjId, Rec};
 use mcs_users::{UserList, place_told};
 use std::marker::Model;
 
-/// What reaches a thread, where it is kept. Clauses see what `Reached` has.
+/// What reaches a thread, borrowed from the book. Clauses see it as `Reached`.
 #[derive(Drop)]
 pub struct Reaches<'a> {
     pub thread: ObjId,
@@ -31,7 +31,7 @@ impl<'a> Model for Reaches<'a> {
     ghost view = { λ r. record { thread = r.thread; answer = r.told } };
 }
 
-/// The words of a message that is at a place.
+/// Returns the words of a message at a position.
 fn words_at(words: &[u64], at: u32, len: u8) -> &[u64]
     requires { IsMessageAt words.now at len }
     ensures { result.now ≡ (content_at words.now at len).words }
@@ -40,7 +40,7 @@ fn words_at(words: &[u64], at: u32, len: u8) -> &[u64]
     &words[start..start + len as usize]
 }
 
-/// That the message at a place came.
+/// Returns that the message at a position was received.
 fn got_at<'a>(badge: Badge, words: &'a [u64], at: u32, len: u8) -> Told<'a>
     requires { IsMessageAt words.now at len }
     ensures { result ≡ answer.Got badge (content_at words.entry.now at len) }
@@ -48,7 +48,7 @@ fn got_at<'a>(badge: Badge, words: &'a [u64], at: u32, len: u8) -> Told<'a>
     Told::got(badge, words[at as usize], words_at(words, at, len))
 }
 
-/// What a taker gets of the message that a line sent last, with a record more.
+/// Returns what a taker would receive of the message last sent in a line, after one more record.
 fn got_with<'a>(got: Option<Told<'a>>, fact: &KeptRecord<'a>) -> Option<Told<'a>>
     ensures { result ≡ got_with got.entry fact.now }
 {
@@ -67,7 +67,7 @@ fn got_with<'a>(got: Option<Told<'a>>, fact: &KeptRecord<'a>) -> Option<Told<'a>
     }
 }
 
-/// What reaches a thread that takes this, if the line sent it.
+/// Returns what reaches a thread that takes this message, if the line sent it.
 fn taken<'a>(thread: ObjId, got: &Option<Told<'a>>) -> Option<Reaches<'a>>
     ensures { result ≡ taken thread got.now }
 {
@@ -80,7 +80,7 @@ fn taken<'a>(thread: ObjId, got: &Option<Told<'a>>) -> Option<Reaches<'a>>
     }
 }
 
-/// What reaches a thread by a record that is kept whole.
+/// Returns what reaches a thread by a record that is kept unpacked.
 fn reaching_whole<'a>(got: &Option<Told<'a>>, fact: &'a Rec) -> Option<Reaches<'a>>
     ensures { result ≡ reaching got.now fact.entry.now }
 {
@@ -109,7 +109,8 @@ fn reaching_whole<'a>(got: &Option<Told<'a>>, fact: &'a Rec) -> Option<Reaches<'
     }
 }
 
-/// What reaches a thread by a record, where a taker gets this of what the line sent last.
+/// Returns what reaches a thread by a record; `got` is what a taker receives of the message last
+/// sent in the line.
 fn reaching<'a>(got: &Option<Told<'a>>, fact: &KeptRecord<'a>) -> Option<Reaches<'a>>
     ensures { result ≡ reaching got.now fact.now }
 {
@@ -140,7 +141,7 @@ fn reaching<'a>(got: &Option<Told<'a>>, fact: &KeptRecord<'a>) -> Option<Reaches
     }
 }
 
-/// The position of a user whom this reached, if it reached its thread.
+/// Returns the position of a user after this reached a thread, its own or another.
 fn told_by(user: &UserList, reached: Option<Reaches<'_>>, place: Position) -> Position
     ensures { result ≡ told_by user.now reached.entry place }
 {
@@ -154,7 +155,7 @@ fn told_by(user: &UserList, reached: Option<Reaches<'_>>, place: Position) -> Po
     }
 }
 
-/// The position of a user after a line of another one.
+/// Returns the position of a user after a line of another user.
 #[tactic(auto, using(crate::proofs::Telling::told_nothing))]
 fn told_in(user: &UserList, line: &Line<'_>, place: Position) -> Position
     ensures { result ≡ told_all (reached_from None line.now.records) user.now place }
@@ -174,7 +175,7 @@ fn told_in(user: &UserList, line: &Line<'_>, place: Position) -> Position
     now
 }
 
-/// The position of the user in a place after a line of the user of this number.
+/// Returns the position of the user at index `place` after a line of user `own`.
 fn told_at(line: &Line<'_>, own: usize, users: &[UserList], place: usize, now: Position) -> Position
     ensures { result ≡ place_told (reached_from None line.now.records) own users.now place now }
 {
@@ -187,7 +188,7 @@ fn told_at(line: &Line<'_>, own: usize, users: &[UserList], place: usize, now: P
     }
 }
 
-/// Moves all users but the one that entered to where they are after its line.
+/// Advances all users but the one that entered past a line.
 pub fn tell_all(line: &Line<'_>, own: usize, users: &[UserList], places: &mut Vec<Position>)
     ensures { places.new.items
         ≡ all_told (reached_from None line.now.records) own 0 users.now places.old.items }

@@ -14,7 +14,7 @@ use mcs_types::{CoreId, ObjId, OutOfMemory};
 use mcs_users::{Picks, UserList, Users, push};
 use std::alloc::Global;
 
-/// The best of a core among those of all; None where there is no such core.
+/// Returns the best pick of a core; None if the core does not exist.
 fn best_at(best: &[Option<Pick>], core: usize) -> Option<Pick>
     ensures { result ≡ best_at best.now core }
 {
@@ -24,7 +24,7 @@ fn best_at(best: &[Option<Pick>], core: usize) -> Option<Pick>
     }
 }
 
-/// Whether a thread that may enter has a lower priority than another one.
+/// Returns whether a thread that may enter has a lower priority than another one.
 fn is_below<L: Lines>(kernel: &Kernel<L>, thread: ObjId, other: ObjId) -> bool
     requires thread { EntersSomewhere (log_of kernel.now) thread }
     requires other { EntersSomewhere (log_of kernel.now) other }
@@ -35,7 +35,7 @@ fn is_below<L: Lines>(kernel: &Kernel<L>, thread: ObjId, other: ObjId) -> bool
 }
 
 impl<L: Lines> Walk<L> {
-    /// Whether a core may pick what a user can give there, where this is the best that it can pick.
+    /// Returns whether a core may pick a candidate, given the best candidate there.
     fn may_pick(&self, users: &Users, user: &UserList, offer: Offer, best: Pick) -> bool
         requires user { slice_get users.now offer.pick.user ≡ Some user.now }
         requires offer { IsOffer users.now self.now offer.pick.user (Some offer) }
@@ -57,8 +57,8 @@ impl<L: Lines> Walk<L> {
         }
     }
 
-    /// Returns what a core may pick of a user, where this is the best that it can pick; None where
-    /// it may not pick the user.
+    /// Returns what a core may pick of a user, given the best candidate there; None if it may not
+    /// pick the user.
     fn pick_of(&self, users: &Users, user: usize, core: CoreId, best: Pick) -> Option<Pick>
         requires { IsBest users.now self.now core best }
         ensures some { IfSome result (λ k.
@@ -79,8 +79,8 @@ impl<L: Lines> Walk<L> {
         }
     }
 
-    /// Returns all that a core may pick, where this is the best that it can pick. OutOfMemory where
-    /// memory was refused.
+    /// Returns all that a core may pick, given the best candidate there. `OutOfMemory` if an
+    /// allocation fails.
     fn picks_by(
         &self,
         alloc: Global,
@@ -105,8 +105,8 @@ impl<L: Lines> Walk<L> {
         Ok(picks)
     }
 
-    /// Returns all that a core may pick, where this is the best that it can pick, if anything.
-    /// OutOfMemory where memory was refused.
+    /// Returns all that a core may pick, given the best candidate there, if any. `OutOfMemory` if
+    /// an allocation fails.
     fn picks_on(
         &self,
         alloc: Global,
@@ -123,9 +123,8 @@ impl<L: Lines> Walk<L> {
         }
     }
 
-    /// Returns what each core may pick: the due entries of those users that can give one and whose
-    /// threads their schedules let it pick beside all others that can. OutOfMemory where memory was
-    /// refused.
+    /// Returns what each core may pick: the due entries of those users that have one and whose
+    /// threads their schedules let it pick. `OutOfMemory` if an allocation fails.
     pub fn picks(&self, alloc: Global, users: &Users) -> Result<Vec<Picks>, OutOfMemory>
         ensures { IfOk result (λ v. ArePicks users.now self.now v.items) }
     {

@@ -1,4 +1,4 @@
-//! The turns that can be made: of each core what it picks, and what it picked before.
+//! The possible turns: each core's current and stale picks.
 ghost use Rattle.std.specs.Prelude.{◌≡◌, ◌∷◌, ◌++◌, [], map, IfOk, OnOk};
 ghost use Rattle.mcs_turns.specs.Turns.{ArePicks};
 ghost use Rattle.mcs_explore_walk.specs.Walks.{ArePicked, HasEachTurn, is_other, stale_turns, turn_of, turns_below, turns_of, turns_on};
@@ -10,14 +10,14 @@ use mcs_types::{CoreId, OutOfMemory};
 use mcs_users::{Picks, Users, push};
 use std::alloc::Global;
 
-/// Whether this is none of these picks.
+/// Returns whether a pick is none of these.
 fn is_other(picks: &[Pick], pick: Pick) -> bool
     ensures { result ≡ is_other picks.now pick }
 {
     !has(picks, pick)
 }
 
-/// Adds the turn of a core that enters this, unless it is among what the core picks now.
+/// Adds the turn of a core that enters a stale pick, unless the core picks it now.
 fn push_stale(
     turns: &mut Vec<Turn>,
     core: CoreId,
@@ -33,7 +33,7 @@ fn push_stale(
     Ok(())
 }
 
-/// Adds the turns of a core that enter what it picks now.
+/// Adds the turns of a core that enter its current picks.
 fn push_now(turns: &mut Vec<Turn>, core: CoreId, now: &[Pick]) -> Result<(), OutOfMemory>
     ensures { OnOk result (turns.new.items ≡ turns.old.items ++ map (turn_of core) now.now) }
 {
@@ -43,7 +43,7 @@ fn push_now(turns: &mut Vec<Turn>, core: CoreId, now: &[Pick]) -> Result<(), Out
     Ok(())
 }
 
-/// Adds the turns of a core that picks these now and picked those before.
+/// Adds the turns of a core, with its current and its stale picks.
 fn add_turns(
     turns: &mut Vec<Turn>,
     core: CoreId,
@@ -61,7 +61,7 @@ fn add_turns(
 }
 
 impl<L: Lines> Walk<L> {
-    /// Adds the turns of a core, where the cores have these picks.
+    /// Adds the turns of a core, given the picks of the cores.
     fn add_core(
         &self,
         turns: &mut Vec<Turn>,
@@ -78,7 +78,7 @@ impl<L: Lines> Walk<L> {
         }
     }
 
-    /// The turns of the first cores, where the cores have these picks.
+    /// Returns the turns of the first cores, given the picks of the cores.
     fn turns_below(
         &self,
         alloc: Global,
@@ -94,8 +94,8 @@ impl<L: Lines> Walk<L> {
         Ok(turns)
     }
 
-    /// The turns of all cores, where the cores have these picks: each that the rule has, and those
-    /// of threads that may not enter. OutOfMemory where memory was refused.
+    /// Returns the turns of all cores, given their picks: each that the rule allows, and those of
+    /// threads that may not enter. `OutOfMemory` if an allocation fails.
     pub fn turns(
         &self,
         alloc: Global,

@@ -1,4 +1,4 @@
-//! A kernel, how far each user is, and what each core may enter.
+//! A state of a run: a kernel, the position of each user, and what each core may enter.
 ghost use Rattle.std.specs.Prelude.{◌≡◌, ◌≤◌, ◌<◌, ◌+◌, ◌^◌, ℕ, true, false, [], IfOk, IfSome, IfNone, OnOk, OnErr, Some, length, map, replicate, slice_get, option_copied};
 ghost use Rattle.std.specs.List.{Contains, list_any};
 ghost use Rattle.mcs_types.specs.declared.id.ObjId.{ObjId};
@@ -30,7 +30,7 @@ pub struct Turn {
     pub pick: Pick,
 }
 
-/// What a user can give now: the one core on which it can, its pick, and its thread.
+/// A candidate: the core on which a user can enter now, its pick, and its thread.
 #[derive(Clone, Copy, Drop)]
 pub(crate) struct Offer {
     pub core: CoreId,
@@ -38,16 +38,16 @@ pub(crate) struct Offer {
     pub thread: ObjId,
 }
 
-/// A kernel, the positions of its users, and for each core what it picked since its last line and
-/// whose user has not moved. Clauses see how far a run is.
+/// A state of a run: a kernel, the positions of its users, and for each core its stale picks, made
+/// since its last line, whose users have not moved. Clauses see the run's state.
 pub struct Walk<L: Lines> {
     kernel: Kernel<L>,
     places: Vec<Position>,
     stale: Vec<Picks>,
 }
 
-// By hand, so that it is a function of its own: a derived drop would be proved anew wherever a walk
-// is dropped.
+// Written by hand as a separate function: a derived drop would be proved again wherever a walk is
+// dropped.
 impl<L: Lines> Drop for Walk<L> {
     fn drop(self) {
         let Walk {
@@ -81,21 +81,21 @@ fn is_let_in(fault: Option<EnterFault>) -> bool
     }
 }
 
-/// Whether a thread may enter on a core.
+/// Returns whether a thread may enter on a core.
 fn may_enter<L: Lines>(kernel: &Kernel<L>, core: CoreId, thread: ObjId) -> bool
     ensures { result ≡ may_enter (log_of kernel.now) core thread }
 {
     is_let_in(kernel.fault(core, thread))
 }
 
-/// Whether a thread with this status can run.
+/// Returns whether a thread with this status can run.
 fn is_ready(status: Option<Status>) -> bool
     ensures { result ≡ is_ready status }
 {
     matches!(status, Some(Status::Running | Status::Restart))
 }
 
-/// The core on which a thread with this status may enter; None where it may enter nowhere.
+/// The core on which a thread with this status may enter; None if it may enter nowhere.
 #[tactic(auto, using(crate::proofs::Walking::not_ready, crate::proofs::Walking::without_context, crate::proofs::Walking::with_context))]
 fn entry_core<L: Lines>(kernel: &Kernel<L>, thread: ObjId, status: Option<Status>) -> Option<CoreId>
     requires { status ≡ status_of (log_of kernel.now) thread }
@@ -122,7 +122,7 @@ pub(crate) fn priority_of<L: Lines>(kernel: &Kernel<L>, thread: ObjId) -> u8
     }
 }
 
-/// Whether a thread that may enter on a core goes before another one.
+/// Returns whether a thread that may enter on a core has precedence over another one.
 fn goes_before<L: Lines>(kernel: &Kernel<L>, thread: ObjId, other: ObjId) -> bool
     requires thread { EntersSomewhere (log_of kernel.now) thread }
     requires other { EntersSomewhere (log_of kernel.now) other }
@@ -134,7 +134,7 @@ fn goes_before<L: Lines>(kernel: &Kernel<L>, thread: ObjId, other: ObjId) -> boo
     two < one || (one == two && thread.serial < other.serial)
 }
 
-/// The positions of so many users before the first turn.
+/// Returns the positions of `users` before the first turn.
 fn first_places(alloc: Global, users: &[UserList]) -> Result<Vec<Position>, OutOfMemory>
     ensures { IfOk result (λ v. v.items ≡ map started users.now) }
 {
@@ -145,7 +145,7 @@ fn first_places(alloc: Global, users: &[UserList]) -> Result<Vec<Position>, OutO
     Ok(places)
 }
 
-/// No stale pick of so many cores.
+/// Returns an empty set of stale picks for each core.
 fn no_stale(alloc: Global, cores: u8) -> Result<Vec<Picks>, OutOfMemory>
     ensures { IfOk result (λ v. v.items ≡ none_stale cores) }
 {
@@ -156,7 +156,7 @@ fn no_stale(alloc: Global, cores: u8) -> Result<Vec<Picks>, OutOfMemory>
     Ok(stale)
 }
 
-/// Puts a position into a place, if there is such a place.
+/// Sets the position at an index, if there is such an index.
 fn put(places: &mut Vec<Position>, user: usize, place: Position)
     ensures { places.new.items ≡ put_at user place places.old.items }
 {
@@ -165,7 +165,7 @@ fn put(places: &mut Vec<Position>, user: usize, place: Position)
     }
 }
 
-/// Returns the picks of a core among those of all; none where there is no such core.
+/// Returns the picks of a core; none if the core does not exist.
 pub fn picked(picks: &[Picks], core: usize) -> &[Pick]
     ensures { result.now ≡ picks_at picks.now core }
 {
@@ -175,7 +175,7 @@ pub fn picked(picks: &[Picks], core: usize) -> &[Pick]
     }
 }
 
-/// Returns None for each of so many cores.
+/// Returns None for each of this many cores.
 fn no_picks(alloc: Global, cores: u8) -> Result<Vec<Option<Pick>>, OutOfMemory>
     ensures { IfOk result (λ v. v.items ≡ replicate cores None) }
 {
@@ -193,7 +193,7 @@ pub fn has(picks: &[Pick], pick: Pick) -> bool
     picks.iter().any(|other| pick.is_same(*other))
 }
 
-/// Whether a core picks this, where the cores have these picks.
+/// Returns whether a turn enters a current pick of its core.
 fn is_picked(picks: &[Picks], turn: Turn) -> bool
     ensures yes { result ≡ true → Contains (picks_at picks.now turn.core.0) turn.pick }
     ensures no { result ≡ false → Contains (picks_at picks.now turn.core.0) turn.pick → ⊥ }
@@ -202,7 +202,7 @@ fn is_picked(picks: &[Picks], turn: Turn) -> bool
 }
 
 impl<L: Lines> Walk<L> {
-    /// Before the first turn.
+    /// Returns the state before the first turn.
     pub fn new(alloc: Global, boot: &Boot, users: &Users) -> Result<Walk<L>, OutOfMemory>
         ensures { IfOk result (λ w. w ≡ beginning users.now boot.now) }
     {
@@ -223,29 +223,30 @@ impl<L: Lines> Walk<L> {
         &self.kernel
     }
 
-    /// How far each user is.
+    /// Returns the position of each user.
     pub fn places(&self) -> &[Position]
         ensures { result.now ≡ self.now.places }
     {
         self.places.as_slice()
     }
 
-    /// How far the user in a place is.
+    /// Returns the position of the user at an index.
     pub fn place(&self, user: usize) -> Option<Position>
         ensures { result ≡ slice_get self.now.places user }
     {
         self.places.get(user).copied()
     }
 
-    /// What a core picked since its last line and whose user has not moved; none where there is no
-    /// such core.
+    /// Returns the stale picks of a core, made since its last line, whose users have not moved;
+    /// None if the core does not exist.
     pub fn stale(&self, core: CoreId) -> Option<&Picks>
         ensures { option_copied result ≡ slice_get self.now.stale core.0 }
     {
         self.stale.get(core.0 as usize)
     }
 
-    /// What a user can give now; None where it has no entry left, or its thread may enter nowhere.
+    /// Returns what a user can enter now; None if it has no entry left, or its thread may enter
+    /// nowhere.
     pub(crate) fn offer(&self, users: &Users, user: usize) -> Option<Offer>
         ensures { IsOffer users.now self.now user result }
     {
@@ -264,8 +265,7 @@ impl<L: Lines> Walk<L> {
         })
     }
 
-    /// The better of what a user can give and of the best that those before it can give on that
-    /// core.
+    /// Returns the better of a user's candidate and the best of earlier users on that core.
     #[tactic(auto, using(crate::proofs::Picking::is_first))]
     fn better(&self, users: &Users, user: usize, offer: Offer, best: Option<Pick>) -> Pick
         requires offer { IsOffer users.now self.now user (Some offer) }
@@ -285,7 +285,8 @@ impl<L: Lines> Walk<L> {
         }
     }
 
-    /// Notes what a user can give, where it goes before the best that those before it can give.
+    /// Keeps a user's candidate as the best of its core, if it has precedence over the best of
+    /// earlier users.
     #[tactic(auto, using(crate::proofs::Picking::all_kept, crate::proofs::Picking::all_noted, crate::proofs::Picking::all_beyond))]
     fn note(&self, users: &Users, user: usize, best: &mut Vec<Option<Pick>>)
         requires { AreBestBelow users.now self.now user best.old.items }
@@ -303,8 +304,8 @@ impl<L: Lines> Walk<L> {
         }
     }
 
-    /// Returns the best of each core: the due entry of the user that can give one and whose thread
-    /// goes before those of all others that can.
+    /// Returns the best candidate of each core: the due entry of the user whose thread has
+    /// precedence over all others there.
     #[tactic(auto, using(crate::proofs::Picking::none_best, crate::proofs::Picking::best_picks))]
     pub(crate) fn best(
         &self,
@@ -320,8 +321,8 @@ impl<L: Lines> Walk<L> {
         Ok(best)
     }
 
-    /// The stale picks of the core in a place after a line by a user on a core, where the cores had
-    /// these picks before it.
+    /// Returns the stale picks of the core at an index after a line by a user on a core; `picks`
+    /// are the cores' picks before the line.
     fn left_of(
         &self,
         alloc: Global,
@@ -343,8 +344,8 @@ impl<L: Lines> Walk<L> {
         }
     }
 
-    /// The stale picks of all cores after a line by a user on a core, where the cores had these
-    /// picks before it.
+    /// Returns the stale picks of all cores after a line by a user on a core; `picks` are the
+    /// cores' picks before the line.
     fn stale_after(
         &self,
         alloc: Global,
@@ -363,7 +364,7 @@ impl<L: Lines> Walk<L> {
         Ok(after)
     }
 
-    /// Whether a core picked this before.
+    /// Returns whether a core picked this earlier.
     fn was_picked(&self, turn: Turn) -> bool
         ensures yes { result ≡ true → IsStale self.now turn.core turn.pick }
         ensures no { result ≡ false → IsStale self.now turn.core turn.pick → ⊥ }
@@ -374,8 +375,7 @@ impl<L: Lines> Walk<L> {
         }
     }
 
-    /// Whether a turn enters what its core picks, where the cores have these picks, or what it
-    /// picked before.
+    /// Returns whether a turn enters a current pick of its core, or a stale one.
     fn may_take(&self, picks: &[Picks], turn: Turn) -> bool
         ensures yes { result ≡ true → IsPicked self.now picks.now turn.core turn.pick }
         ensures no { result ≡ false → IsPicked self.now picks.now turn.core turn.pick → ⊥ }
@@ -383,7 +383,7 @@ impl<L: Lines> Walk<L> {
         is_picked(picks, turn) || self.was_picked(turn)
     }
 
-    /// The words that the user in a place keeps.
+    /// Returns the words that the user at an index keeps.
     fn saved(&self, user: usize) -> Saved
         ensures { result ≡ saved_at self.now user }
     {
@@ -393,7 +393,7 @@ impl<L: Lines> Walk<L> {
         }
     }
 
-    /// Moves all users but the one that entered to where they are after the newest line.
+    /// Advances all users but the one that entered past the newest line.
     #[tactic(auto, using(crate::proofs::Telling::told_newest, crate::proofs::Telling::told_no_line))]
     fn tell(&mut self, users: &Users, own: usize)
         ensures { self.new ≡ record self.old {
@@ -405,9 +405,9 @@ impl<L: Lines> Walk<L> {
         }
     }
 
-    /// Lets in an entry of a user, which has this number in its list and whose thread may enter on
-    /// the core of a turn, where the cores have these picks, and moves on, as do the users whom its
-    /// line reaches. After an error nothing has changed.
+    /// Enters entry `number` of a user, whose thread may enter on the turn's core, and advances
+    /// this user and those whom its line reaches. `picks` are the current picks of the cores. After
+    /// an error nothing has changed.
     fn enter(
         &mut self,
         alloc: Global,
@@ -438,8 +438,8 @@ impl<L: Lines> Walk<L> {
         }
     }
 
-    /// Returns the user and the entry of a turn, where the cores have these picks; None where the
-    /// rule has no such turn.
+    /// Returns the user and the entry of a turn, given the picks of the cores; None if the rule
+    /// does not allow it.
     fn entrant<'u>(
         &self,
         users: &'u Users,
@@ -466,7 +466,7 @@ impl<L: Lines> Walk<L> {
         Some((list, entry))
     }
 
-    /// Returns whether the rule has a turn, where the cores have these picks.
+    /// Returns whether the rule allows a turn, given the picks of the cores.
     pub fn has_turn(&self, users: &Users, picks: &[Picks], turn: Turn) -> bool
         requires { ArePicks users.now self.now picks.now }
         ensures yes { result ≡ true → (h : Going)
@@ -476,7 +476,7 @@ impl<L: Lines> Walk<L> {
         self.entrant(users, picks, turn).is_some()
     }
 
-    /// Returns whether no turn is possible, where the cores have these picks and so these turns.
+    /// Returns whether no turn is possible, given the picks of the cores and their turns.
     pub fn is_over(&self, users: &Users, picks: &[Picks], turns: &[Turn]) -> bool
         requires picks { ArePicks users.now self.now picks.now }
         requires turns { HasEachTurn users.now self.now turns.now }
@@ -491,9 +491,9 @@ impl<L: Lines> Walk<L> {
         true
     }
 
-    /// Makes a turn, where the cores have these picks, and returns its answer; None where the rule
-    /// has no such turn. Then, and after an error, nothing has changed. BookFull where the book has
-    /// 1,000,000 lines, OutOfMemory where memory was refused.
+    /// Makes a turn, given the picks of the cores, and returns its answer; None if the rule does
+    /// not allow it. Then, and after an error, nothing has changed. `BookFull` if the book has
+    /// 1,000,000 lines, `OutOfMemory` if an allocation fails.
     pub fn turn(
         &mut self,
         alloc: Global,
@@ -530,8 +530,7 @@ impl<L: Lines> Walk<L> {
         (kernel, places)
     }
 
-    /// Clones the walk, to be continued on its own, in the memory of a spare one. OutOfMemory where
-    /// memory was refused.
+    /// Clones the walk in the memory of a spare one. `OutOfMemory` if an allocation fails.
     pub fn copy(&self, alloc: Global, spare: Option<Walk<L>>) -> Result<Walk<L>, OutOfMemory>
         ensures { IfOk result (λ w. w ≡ self.now) }
     {

@@ -1,5 +1,5 @@
-//! The users of a script: the entries and the program of each of some threads, where it is, and
-//! what a core picked of them.
+//! The users of a script: the entries, the program and the position of each, and the picks of
+//! cores.
 #![tactic(auto)]
 
 mod lists;

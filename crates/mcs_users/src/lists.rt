@@ -9,9 +9,9 @@ use mcs_types::{Entry, ObjId, OutOfMemory};
 use std::alloc::Global;
 use std::marker::Model;
 
-/// A thread, its entries, the number of the entry, from 0, with which a list goes on after the last
-/// (None where the last is its last), its program with what it fills in, and when its core picks
-/// it. Without a program it gives its entries one after the other.
+/// A user: its thread, its entries, the entry from which the list repeats, from 0 (None if it
+/// ends), its program with what that fills in, and its schedule. Without a program it gives its
+/// entries in order.
 #[derive(Drop)]
 pub struct UserList {
     pub thread: ObjId,
@@ -37,7 +37,7 @@ impl Model for UserList {
     } };
 }
 
-/// Adds an element to the end. OutOfMemory where a growth was refused.
+/// Adds an element to the end. `OutOfMemory` if an allocation fails.
 pub fn push<T: Drop>(items: &mut Vec<T>, item: T) -> Result<(), OutOfMemory>
     ensures { OnOk result (items.new.items ≡ items.old.items ++ item ∷ []) }
 {
@@ -104,7 +104,7 @@ impl UserList {
         self.schedule = schedule;
     }
 
-    /// Returns the program of its list. OutOfMemory where memory was refused.
+    /// Returns its list as a program. `OutOfMemory` if an allocation fails.
     fn straight(&self, alloc: Global) -> Result<Vec<Op>, OutOfMemory>
         ensures { IfOk result (λ ops. ops.items ≡ straight self.now) }
     {
@@ -118,7 +118,8 @@ impl UserList {
         Ok(ops)
     }
 
-    /// Gives it the program of its list, if it has none. OutOfMemory where memory was refused.
+    /// Replaces the list by an equivalent program, unless it has a program. `OutOfMemory` if an
+    /// allocation fails.
     fn straightened(self, alloc: Global) -> Result<UserList, OutOfMemory>
         ensures { IfOk result (λ l. l ≡ straightened self) }
     {
@@ -131,8 +132,7 @@ impl UserList {
         Ok(list)
     }
 
-    /// Adds an entry to the end. OutOfMemory where a growth was refused: then the list is as it
-    /// was.
+    /// Adds an entry to the end. `OutOfMemory` if an allocation fails: then the list is as it was.
     fn push(&mut self, entry: Entry) -> Result<(), OutOfMemory>
         ensures added { OnOk result
             (self.new ≡ record self.old { entries = self.old.entries ++ entry ∷ [] }) }
@@ -142,8 +142,7 @@ impl UserList {
     }
 }
 
-/// Lists of entries, of which each is a thread's. Clauses see a list of threads, each with its
-/// entries.
+/// The lists of users, each of one thread. Clauses see a list of threads, each with its entries.
 #[derive(Drop)]
 pub(crate) struct Lists {
     alloc: Global,
@@ -160,7 +159,7 @@ impl Model for Lists {
 }
 
 impl Lists {
-    /// No list.
+    /// Returns the lists before any user has one.
     pub(crate) fn new(alloc: Global) -> Lists
         ensures { result ≡ [] }
     {
@@ -193,7 +192,7 @@ impl Lists {
             .position(|list| list.thread.is_same(thread))
     }
 
-    /// The place of a thread's list, or of the first one after it.
+    /// Returns the index of a thread's list, or of the first list after where it belongs.
     fn place_for(&self, thread: ObjId) -> Option<usize>
         ensures { result ≡ position (λ u. is_place_for thread u) self.now }
     {
@@ -201,7 +200,7 @@ impl Lists {
             || thread.serial < list.thread.serial)
     }
 
-    /// Whether the list in a place is that of a thread.
+    /// Returns whether the list at an index is that of a thread.
     fn is_at(&self, place: usize, thread: ObjId) -> bool
         ensures { (u : User) → slice_get self.now place ≡ Some u → result ≡ same u.thread thread }
     {
@@ -211,7 +210,7 @@ impl Lists {
         }
     }
 
-    /// Adds an entry to the end of the list at this index. OutOfMemory where a growth was refused:
+    /// Adds an entry to the end of the list at this index. `OutOfMemory` if an allocation fails:
     /// then the lists are as they were.
     fn push_at(&mut self, place: usize, entry: Entry) -> Result<(), OutOfMemory>
         requires { place < length self.old }
@@ -223,7 +222,7 @@ impl Lists {
         list.push(entry)
     }
 
-    /// Puts a list of one entry into a place, before those from there on.
+    /// Inserts a list of one entry at an index.
     fn insert_at(&mut self, place: usize, thread: ObjId, entry: Entry) -> Result<(), OutOfMemory>
         requires { place ≤ length self.old }
         ensures added { OnOk result
@@ -237,8 +236,8 @@ impl Lists {
         }
     }
 
-    /// Adds an entry to the end of a thread's list. OutOfMemory where a growth was refused: then
-    /// the lists are as they were.
+    /// Adds an entry to the end of a thread's list. `OutOfMemory` if an allocation fails: then the
+    /// lists are as they were.
     pub(crate) fn add(&mut self, thread: ObjId, entry: Entry) -> Result<(), OutOfMemory>
         ensures added { OnOk result (self.new ≡ with_entry self.old thread entry) }
         ensures unchanged { OnErr result (self.new ≡ self.old) }
@@ -254,8 +253,8 @@ impl Lists {
         }
     }
 
-    /// Lets the list in a place go on with an entry of it, by its number from 0. Nothing changes
-    /// where it has no such entry.
+    /// Makes the list at an index repeat from one of its entries, by the entry's number from 0.
+    /// Nothing changes if it has no such entry.
     pub(crate) fn repeat_at(&mut self, place: usize, number: usize)
         requires { place < length self.old }
         ensures { self.new ≡ again_at self.old place number }
@@ -267,7 +266,7 @@ impl Lists {
         list.again = Some(number);
     }
 
-    /// Gives the list in a place a program, and what it fills in.
+    /// Gives the list at an index a program, and the parts of messages that it fills in.
     pub(crate) fn program_at(&mut self, place: usize, ops: Vec<Op>, fills: Vec<Fill>)
         requires { place < length self.old }
         ensures { self.new ≡ program_at self.old place ops.items fills.items }
@@ -286,7 +285,8 @@ impl Lists {
         }
     }
 
-    /// Gives each list its program, if it has none. OutOfMemory where memory was refused.
+    /// Replaces each list by an equivalent program, unless it has a program. `OutOfMemory` if an
+    /// allocation fails.
     pub(crate) fn straightened(self) -> Result<Lists, OutOfMemory>
         ensures { IfOk result (λ l. l ≡ map straightened self) }
     {

@@ -1,4 +1,5 @@
-//! What a core picks, and what it picked since its last line and whose user has not moved.
+//! The current picks of a core, or its stale ones: made since its last line, for users that have
+//! not moved.
 ghost use Rattle.std.specs.Prelude.{◌≡◌, ◌∷◌, ◌++◌, [], IfOk, OnOk};
 ghost use Rattle.std.specs.List.{list_any};
 ghost use Rattle.mcs_turns.specs.Due.{is_same, with_picks, without_user};
@@ -10,7 +11,7 @@ use smallvec::SmallVec;
 use std::alloc::Global;
 use std::marker::Model;
 
-/// Some picks, each once, the lower user first, and then the lower entry. Clauses see a list.
+/// A set of picks, ordered by user and then by entry. Clauses see a list.
 #[derive(Drop)]
 pub struct Picks {
     // few cores have more than two
@@ -26,7 +27,7 @@ impl Model for Picks {
     ghost view = { λ p. p.picks.items };
 }
 
-/// Adds a pick to the end. OutOfMemory where a growth was refused.
+/// Adds a pick to the end. `OutOfMemory` if an allocation fails.
 fn add(picks: &mut SmallVec<Pick, 2>, pick: Pick) -> Result<(), OutOfMemory>
     ensures { OnOk result (picks.new.items ≡ picks.old.items ++ pick ∷ []) }
 {
@@ -36,7 +37,7 @@ fn add(picks: &mut SmallVec<Pick, 2>, pick: Pick) -> Result<(), OutOfMemory>
     }
 }
 
-/// Adds a pick to the end, unless it is one of this user. OutOfMemory where a growth was refused.
+/// Adds a pick to the end, unless it is of this user. `OutOfMemory` if an allocation fails.
 fn add_of_others(
     picks: &mut SmallVec<Pick, 2>,
     pick: Pick,
@@ -52,7 +53,7 @@ fn add_of_others(
 }
 
 impl Picks {
-    /// None.
+    /// Returns an empty set of picks.
     pub fn new(alloc: Global) -> Picks
         ensures { result ≡ [] }
     {
@@ -61,22 +62,21 @@ impl Picks {
         }
     }
 
-    /// The picks, the lower user first, and then the lower entry.
+    /// Returns the picks, ordered by user and then by entry.
     pub fn as_slice(&self) -> &[Pick]
         ensures { result.now ≡ self.now }
     {
         self.picks.as_slice()
     }
 
-    /// Whether a pick is among them.
+    /// Returns whether a pick is among them.
     pub fn has(&self, pick: Pick) -> bool
         ensures { result ≡ list_any (is_same pick) self.now }
     {
         self.picks.iter().any(|other| pick.is_same(*other))
     }
 
-    /// These and one more, if there is one and it is not among them, without those of a user, if
-    /// there is one.
+    /// Returns these picks without those of `user`, if given, and with one more, if given and new.
     fn merged(
         &self,
         alloc: Global,
@@ -105,7 +105,7 @@ impl Picks {
         Ok(Picks { picks })
     }
 
-    /// These and more, each if it is not among them, without those of a user, if there is one.
+    /// Returns these picks without those of `user`, if given, and with all new ones of `more`.
     fn merged_all(
         &self,
         alloc: Global,
@@ -124,29 +124,29 @@ impl Picks {
         all.merged(alloc, None, user)
     }
 
-    /// These and more, each if it is not among them. OutOfMemory where memory was refused.
+    /// Returns the union with these picks. `OutOfMemory` if an allocation fails.
     pub fn with(&self, alloc: Global, picks: &[Pick]) -> Result<Picks, OutOfMemory>
         ensures { IfOk result (λ p. p ≡ with_picks picks.now self.now) }
     {
         self.merged_all(alloc, picks, None)
     }
 
-    /// These and more, each if it is not among them, without those of a user. OutOfMemory where
-    /// memory was refused.
+    /// Returns the union with these picks, without those of a user. `OutOfMemory` if an allocation
+    /// fails.
     pub fn after(&self, alloc: Global, picks: &[Pick], user: usize) -> Result<Picks, OutOfMemory>
         ensures { IfOk result (λ p. p ≡ without_user user (with_picks picks.now self.now)) }
     {
         self.merged_all(alloc, picks, Some(user))
     }
 
-    /// Adds a pick to the end. OutOfMemory where a growth was refused.
+    /// Adds a pick to the end. `OutOfMemory` if an allocation fails.
     pub fn push(&mut self, pick: Pick) -> Result<(), OutOfMemory>
         ensures { OnOk result (self.new ≡ self.old ++ pick ∷ []) }
     {
         add(&mut self.picks, pick)
     }
 
-    /// The same picks once more. OutOfMemory where memory was refused.
+    /// Returns a copy. `OutOfMemory` if an allocation fails.
     pub fn copy(&self, alloc: Global) -> Result<Picks, OutOfMemory>
         ensures { IfOk result (λ p. p ≡ self.now) }
     {

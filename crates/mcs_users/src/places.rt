@@ -1,4 +1,5 @@
-//! Where users are: a list goes from entry to entry, a program by what its last entry was told.
+//! The positions of users: a list goes from entry to entry, a program follows the result of its
+//! last entry.
 ghost use Rattle.std.specs.Prelude.{◌≡◌, ◌<◌, length, slice_get};
 ghost use Rattle.mcs_turns.specs.Programs.{goes_on};
 ghost use Rattle.mcs_turns.specs.Turns.{behind, comes_of, gone_on, is_send_at, listed_behind, started, told, waiting_behind};
@@ -7,7 +8,7 @@ use crate::lists::UserList;
 use mcs_turns::{Position, Saved, Settled, Told, goes_on, starts};
 use mcs_types::Answer;
 
-/// The position from which a program goes on; that of a list where there is no program.
+/// Returns the position at which a program continues, or that of the list if there is no program.
 fn gone_on(settled: Option<Settled>, user: &UserList, place: Position) -> Position
     ensures { result ≡ gone_on settled user.now place }
 {
@@ -32,7 +33,7 @@ pub fn first_place(user: &UserList) -> Position
     gone_on(starts(user.ops.as_slice()), user, Position::start())
 }
 
-/// The position of a list after an entry that was let in with this answer.
+/// Returns the position in a list after an entry that was accepted with this answer.
 fn listed_behind(user: &UserList, number: usize, saved: Saved, answer: &Answer) -> Position
     requires { number < length user.now.entries }
     ensures { result ≡ listed_behind user.now number saved answer.now }
@@ -48,7 +49,7 @@ fn listed_behind(user: &UserList, number: usize, saved: Saved, answer: &Answer) 
     place
 }
 
-/// Where a program goes on that gave this entry and is told this.
+/// Returns the position of a program after this result of an entry.
 fn next_of(user: &UserList, number: usize, told: &Told<'_>, place: Position) -> Position
     ensures { result ≡ gone_on (goes_on user.now.ops number place.saved told.now) user.now place }
 {
@@ -56,7 +57,8 @@ fn next_of(user: &UserList, number: usize, told: &Told<'_>, place: Position) -> 
     gone_on(settled, user, place)
 }
 
-/// The position of a user whose entry waits. Which entry a program gives next is not known yet.
+/// Returns the position of a user whose entry waits; which entry its program gives next is not
+/// known yet.
 fn waiting_behind(user: &UserList, number: usize, saved: Saved) -> Position
     requires { number < length user.now.entries }
     ensures { result ≡ waiting_behind user.now.ops user.now number saved }
@@ -72,8 +74,8 @@ fn waiting_behind(user: &UserList, number: usize, saved: Saved) -> Position
     }
 }
 
-/// The position of a user after an entry that was let in with this answer. A program goes on by it
-/// at once, and behind an entry that waits once that is told something.
+/// Returns the position of a user after an entry that was accepted with this answer. A program
+/// continues with it at once, or, if the entry waits, with what later reaches the thread.
 pub fn place_behind(user: &UserList, number: usize, saved: Saved, answer: &Answer) -> Position
     requires { number < length user.now.entries }
     ensures { result ≡ behind user.now number saved answer.now }
@@ -97,7 +99,8 @@ pub fn is_send_at(user: &UserList, number: usize) -> bool
     }
 }
 
-/// Whether an entry that waited comes to this: that a thread goes on says so of Send alone.
+/// Returns whether this is the answer of a waiting entry: that its thread runs again answers a Send
+/// alone.
 #[tactic(auto, using(crate::proofs::Coming::comes_done, crate::proofs::Coming::comes_other))]
 fn comes_of(user: &UserList, number: usize, told: &Told<'_>) -> bool
     ensures { result ≡ comes_of user.now number told.now }
@@ -109,7 +112,7 @@ fn comes_of(user: &UserList, number: usize, told: &Told<'_>) -> bool
     }
 }
 
-/// The position of a user whom something reached: where its entry waited, its program goes on by
+/// Returns the position of a user after this reached its thread: a waiting program continues with
 /// it.
 pub fn place_told(user: &UserList, answer: &Told<'_>, place: Position) -> Position
     ensures { result ≡ told user.now answer.now place }

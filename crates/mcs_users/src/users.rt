@@ -1,4 +1,4 @@
-//! Users: the entries of each of some threads.
+//! Users: threads with their entries.
 ghost use Rattle.std.specs.Prelude.{◌≡◌, [], IfOk, OnOk, OnErr, map, option_copied, position, slice_get};
 ghost use Rattle.std.specs.List.{list_all};
 ghost use Rattle.mcs_types.specs.Ids.{same};
@@ -31,7 +31,7 @@ impl Model for Users {
 }
 
 impl Users {
-    /// No user.
+    /// Returns a list of no users.
     pub fn new(alloc: Global) -> Users
         ensures { result ≡ [] }
     {
@@ -74,8 +74,8 @@ impl Users {
         self.lists().iter().any(|user| user.changes_slots())
     }
 
-    /// Adds an entry to the end of a thread's list. OutOfMemory where a growth was refused: then
-    /// the lists are as they were.
+    /// Adds an entry to the end of a thread's list. `OutOfMemory` if an allocation fails: then the
+    /// lists are as they were.
     pub fn add(&mut self, thread: ObjId, entry: Entry) -> Result<(), OutOfMemory>
         ensures added { OnOk result (self.new ≡ with_entry self.old thread entry) }
         ensures unchanged { OnErr result (self.new ≡ self.old) }
@@ -83,8 +83,8 @@ impl Users {
         self.lists.add(thread, entry)
     }
 
-    /// Lets the list of a thread go on with an entry of it, by its number from 0. Nothing changes
-    /// where it has no such entry.
+    /// Makes the list of a thread repeat from one of its entries, by the entry's number from 0.
+    /// Nothing changes if it has no such entry.
     pub fn repeat(&mut self, thread: ObjId, number: usize)
         ensures { self.new ≡ with_again self.old thread number }
     {
@@ -93,8 +93,8 @@ impl Users {
         }
     }
 
-    /// Gives the user of a thread a program, and what it fills in. Nothing changes where the thread
-    /// has no user.
+    /// Gives the user of a thread a program, and the parts of messages that it fills in. Nothing
+    /// changes if the thread has no user.
     pub fn program(&mut self, thread: ObjId, ops: Vec<Op>, fills: Vec<Fill>)
         ensures { self.new ≡ with_program self.old thread ops.items fills.items }
     {
@@ -110,9 +110,9 @@ impl Users {
         self.lists.set_schedule(schedule);
     }
 
-    /// Gives each user that has none the program of its list: so it gives no entry again that was
-    /// answered, also where its thread was restarted before it ran. OutOfMemory where memory was
-    /// refused.
+    /// Replaces the list of each user by an equivalent program, unless it has a program: so it
+    /// repeats no answered entry, even if its thread was restarted before it ran. `OutOfMemory` if
+    /// an allocation fails.
     pub fn straightened(self) -> Result<Users, OutOfMemory>
         ensures { IfOk result (λ u. u ≡ map straightened self) }
     {
