@@ -100,6 +100,31 @@ shown_so() {
     done
 }
 
+# told_so FILE: mcslab and the library check, explain, show, draw and explore a plan alike, in its
+# own words
+told_so() {
+    for how in check why "state --json" "state --json --at 9" draw explore; do
+        "$MCSLAB" $how "$1" >"$room/want" 2>"$room/want.err"
+        want=$?
+        # mcslab tells of a line beyond the end
+        [ $want != 64 ] || continue
+        "$room/plain/tool" ${how%% *}_plan "$(number_for "$how")" <"$1" >"$room/got" 2>"$room/got.err"
+        got=$?
+        cmp -s "$room/want" "$room/got" && [ $want = $got ] || fail "$how $1: the library gives another text or status ($got, not $want)"
+        [ "$want" != 2 ] || [ "$how" != explore ] || [ "$(line_in "$room/want.err")" = "$(line_in "$room/got.err")" ] ||
+            fail "$how $1: the library refuses another line"
+    done
+}
+
+# number_for COMMAND: the number that the tool is given for a command of mcslab
+number_for() {
+    case $1 in
+    state*at*) echo "${1##* }" ;;
+    state*) echo 0 ;;
+    *) echo 1000000 ;;
+    esac
+}
+
 # line_in FILE: the number of the line that a fault names
 line_in() {
     sed -n '1s/^\(mcslab: \)\{0,1\}line \([0-9]*\): .*/\2/p; 1s/^[^ ]*:\([0-9]*\): .*/\1/p' "$1"
@@ -206,6 +231,7 @@ if [ -x "$MCSLAB" ]; then
     done
     for plan in $(find "$data" tests/faults -name '*.plan' | sort); do
         done_so compile "$plan"
+        told_so "$plan"
         count=$((count + 1))
     done
     echo "$count scripts and plans: compared with mcslab"

@@ -61,7 +61,8 @@ END
     grep '^logic=' "$room/build.log"
     MODULE=$room/mcs_c.wasm
     CLANG=$KIT/toolchain/bin/clang sh to_wasm.sh "$room/module.bc" "$MODULE" \
-        mcs_replay mcs_check mcs_compile mcs_number mcs_why mcs_state mcs_draw mcs_search
+        mcs_replay mcs_check mcs_compile mcs_why mcs_state mcs_draw mcs_search \
+        mcs_check_plan mcs_why_plan mcs_draw_plan mcs_search_plan
 fi
 [ -z "${KEEP:-}" ] || cp "$MODULE" "$KEEP"
 python3 page.py "$MODULE" "$here/playground.html"

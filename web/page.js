@@ -3,6 +3,7 @@
 //
 //   text ── (plan: mcs_compile) ──> script ── mcs_replay, _check, _why, _draw, _state ──> views
 //   script of users ── mcs_search, with budgets that rise ──> report, and the script of each order
+//   plan ── mcs_check_plan, _why_plan, _draw_plan, _search_plan ──> the same in its own words
 //
 // Two workers have the module each: one for what is typed, and one for searches, which a stop ends.
 const find = id => document.getElementById(id);
@@ -60,10 +61,10 @@ class Caller {
 const superseded = 'the text changed';
 let typing, searching;
 // the texts that are shown, and what came of them
-let shown = { script: '', lines: null, of: 0, name: '' };
-let made = { script: '', lines: null, isUsers: false };
+let shown = { script: '', plan: '', name: '' };
+let made = { script: '', plan: '', isUsers: false };
 let round = 0;
-let report = { text: '', script: '' };
+let report = { text: '' };
 
 const escaped = text => text.replace(/[&<>"]/g, c => ({ '&': '&amp;', '<': '&lt;', '>': '&gt;', '"': '&quot;' })[c]);
 const element = (name, text, kind) => {
@@ -127,11 +128,13 @@ const goTo = line => {
   if (row) row.scrollIntoView({ block: 'center', inline: 'nearest' });
 };
 
-// The line of the text of which a line of the shown script came; 0 where it came of none
-const lineOf = line => {
-  if (shown.name) return 0;
-  return shown.lines ? shown.lines[line - 1] || 0 : line;
-};
+// The line of the text that a report or a picture names; 0 where an order is shown
+const lineOf = line => (shown.name ? 0 : line);
+
+// Calls an export with a script; with the plan of which it came, where it came of one, so that it
+// has the plan's words and lines
+const callOf = (caller, name, { plan, script }, states) => (
+  plan ? caller.call(`${name}_plan`, plan, states) : caller.call(name, script, states));
 
 // ---- what is told of a script
 
@@ -146,7 +149,12 @@ const refusedBy = told => told.status === 2 || told.status >= 5;
 
 const tellFault = (told, line) => mark(line, `${line ? `Line ${line}: ` : ''}${said(told)}`);
 
-const numbersOf = told => told.text.split('\n').filter(Boolean).map(Number);
+// The line of the script for each line of the book that is drawn, by a picture of the script
+const linesDrawn = told => {
+  const svg = new DOMParser().parseFromString(told.text, 'image/svg+xml');
+  return new Map([...svg.querySelectorAll('g.row')]
+    .map(row => [row.dataset.line, Number([...row.querySelectorAll('.number')][1]?.textContent || 0)]));
+};
 
 // Shows a script of steps: of the text, or an order that a search found
 const show = async next => {
@@ -155,13 +163,15 @@ const show = async next => {
   find('shown').hidden = !next.name;
   find('shown-name').textContent = next.name ? `Shown: ${next.name}` : '';
   find('script-text').innerHTML = next.script.split('\n').map(coloured).join('\n');
-  const call = name => typing.call(name, next.script);
-  const [trace, check, why, draw] = await Promise.all(['mcs_replay', 'mcs_check', 'mcs_why', 'mcs_draw'].map(call));
+  const [trace, check, why, draw, plain] = await Promise.all([
+    typing.call('mcs_replay', next.script),
+    ...['mcs_check', 'mcs_why', 'mcs_draw'].map(name => callOf(typing, name, next)),
+    next.plan ? typing.call('mcs_draw', next.script) : null,
+  ]);
   if (mine !== round || shown !== next) return;
-  if (refusedBy(trace) || refusedBy(check)) {
-    const told = refusedBy(check) ? check : trace;
-    tellFault(told, lineOf(told.line || trace.line));
-  }
+  if (refusedBy(check)) tellFault(check, lineOf(check.line));
+  else if (refusedBy(trace)) tellFault(trace, next.plan ? 0 : lineOf(trace.line));
+  next.drawn = linesDrawn(plain || draw);
   find('trace-text').innerHTML = trace.text.split('\n').map(coloured).join('\n');
   showVerdicts(check, why);
   await showPicture(draw);
@@ -282,7 +292,7 @@ const step = async () => {
   placeBand(at);
   hereLine = line === Number(slider.max) ? 0 : lineOf(file);
   paint();
-  await showState(file);
+  await showState(row && shown.drawn?.get(row.dataset.line) || 0);
 };
 
 const go = line => {
@@ -316,7 +326,7 @@ const tableOf = (name, rows) => {
   return table;
 };
 
-// The script up to a line, and what follows its step; up to the first step for line 0
+// The script up to one of its lines, and what follows its step; up to the first step for line 0
 const scriptTo = line => {
   const lines = shown.script.split('\n');
   const first = lines.findIndex(one => /^\d/.test(one));
@@ -365,25 +375,20 @@ const titleOf = script => {
   return lines.slice(0, end).map(line => line.slice(2)).join('\n');
 };
 
-const questionLine = text => text.replace(/^question at line (\d+)/, (all, number) => {
-  const line = made.lines ? made.lines[number - 1] : Number(number);
-  return line ? `question at line ${line}` : all;
-});
-
-const showFound = (told, script) => {
+const showFound = told => {
   const { told: text, scripts } = parted(told.text);
-  report = { text, script };
+  report = { text };
   find('report').textContent = text;
   find('save-report').disabled = !text;
   const items = scripts.map(one => {
     const item = element('li');
-    const title = questionLine(titleOf(one.script) || one.name);
+    const title = titleOf(one.script) || one.name;
     const button = element('button', title);
     button.type = 'button';
     button.dataset.name = one.name;
     button.addEventListener('click', async () => {
       const [first] = title.split('\n');
-      await show({ script: one.script, lines: null, name: first });
+      await show({ script: one.script, plan: '', name: first });
       choose('picture');
       find('tab-picture').focus();
     });
@@ -394,7 +399,7 @@ const showFound = (told, script) => {
   const asked = text.split('\n').filter(line => listed.test(line));
   const held = asked.map(line => {
     const item = element('li');
-    item.append(element('span', questionLine(line), /: holds/.test(line) ? 'holds' : ''));
+    item.append(element('span', line, /: holds/.test(line) ? 'holds' : ''));
     return item;
   });
   find('found').replaceChildren(...items, ...held);
@@ -415,25 +420,25 @@ const seconds = from => ((performance.now() - from) / 1000).toFixed(1);
 
 // Searches with budgets that rise, so that a stop leaves what the last one found
 const search = async () => {
-  const { script } = made;
+  const mine = made;
   const most = Number(find('most').value);
   const from = performance.now();
   setSearching(true);
-  showFound({ text: '' }, script);
+  showFound({ text: '' });
   let before = 0, told = null;
   const count = () => tellProgress(`${before ? `${before} states were searched, no end yet. ` : ''}${seconds(from)} s ..`);
   const clock = setInterval(count, 500);
   try {
     for (const states of budgets.filter(one => one < most).concat(most)) {
       count();
-      told = await searching.call(exported.has('mcs_search') ? 'mcs_search' : 'mcs_explore', script, states);
-      if (script !== made.script) return null;
+      told = await callOf(searching, 'mcs_search', mine, states);
+      if (mine !== made) return null;
       if (refusedBy(told)) {
         tellProgress(told.status === 6 ? 'Memory is refused: what was found before stands below.' : 'No search: a line is refused.');
-        if (told.status !== 6) tellFault(told, made.lines ? made.lines[told.line - 1] || 0 : told.line);
+        if (told.status !== 6) tellFault(told, told.line);
         return told;
       }
-      showFound(told, script);
+      showFound(told);
       before = states;
       const [head] = told.text.split('\n');
       if (!head.startsWith('stopped ') && /, whole/.test(head)) break;
@@ -443,7 +448,7 @@ const search = async () => {
     return told;
   } catch (fault) {
     const found = before ? ` What ${before} states showed stands below.` : ' Nothing was found so far.';
-    if (script === made.script) tellProgress(`Ended after ${seconds(from)} s: ${fault.message}.${found}`);
+    if (mine === made) tellProgress(`Ended after ${seconds(from)} s: ${fault.message}.${found}`);
     return null;
   } finally {
     clearInterval(clock);
@@ -460,7 +465,7 @@ const isAnswered = async goal => {
   if (faultLine || find('fault').classList.contains('bad')) return 'Not yet: a line is refused.';
   if (goal[2]) {
     if (made.isUsers) return 'Not yet: the text has no steps.';
-    const told = await typing.call('mcs_check', made.script);
+    const told = await callOf(typing, 'mcs_check', made);
     const good = told.text.split('\n').filter(line => /^ok /.test(line)).length;
     if (told.status !== 0) return 'Not yet: the verdicts show which line is not so.';
     return good >= Number(goal[2]) ? 'Right.' : `Not yet: ${goal[2]} lines have to say what happens.`;
@@ -492,22 +497,19 @@ const clear = () => {
   lastState = '';
 };
 
-// Compiles a plan, and returns its script with the lines of the plan; a script is its own
+// Compiles a plan, and returns it with its script; a script is its own
 const scriptOf = async text => {
-  if (isScript(text)) return { script: text, lines: null };
+  if (isScript(text)) return { script: text, plan: '' };
   const told = await typing.call('mcs_compile', text);
-  if (told.status) return { fault: told };
-  const numbers = await typing.call('mcs_number', text);
-  // without numbers no line of the plan is known
-  return { script: told.text, lines: numbers.status ? [] : numbersOf(numbers) };
+  return told.status ? { fault: told } : { script: told.text, plan: text };
 };
 
 // Shows the script of the text: its run, or that it has many
 const showMade = async () => {
-  if (!made.isUsers) return show({ script: made.script, lines: made.lines, name: '' });
+  if (!made.isUsers) return show({ script: made.script, plan: made.plan, name: '' });
   const many = 'Users run in many orders: search them under All orders, and open one.';
   clear();
-  shown = { script: made.script, lines: made.lines, name: '' };
+  shown = { script: made.script, plan: made.plan, name: '' };
   find('shown').hidden = true;
   find('script-text').innerHTML = made.script.split('\n').map(coloured).join('\n');
   await showPicture({ status: 0, text: '' });
@@ -528,11 +530,11 @@ const refresh = async () => {
   hereLine = 0;
   clear();
   if (isSearching) searching.stop(superseded);
-  showFound({ text: '' }, '');
+  showFound({ text: '' });
   tellProgress('');
   if (next.fault) {
-    made = { script: '', lines: null, isUsers: false };
-    shown = { script: '', lines: null, name: '' };
+    made = { script: '', plan: '', isUsers: false };
+    shown = { script: '', plan: '', name: '' };
     find('shown').hidden = true;
     find('script-text').textContent = '';
     tellFault(next.fault, next.fault.line);

@@ -85,19 +85,15 @@ const size = (width, height) => send('Emulation.setDeviceMetricsOverride', { wid
 
 // ---- mcslab
 
-// What mcslab makes of a script, which is kept under a name so that its file is no plan's
-const lab = (words, script) => {
-  const file = join(room, 'script.mcs');
-  writeFileSync(file, script);
+// What mcslab makes of a text, whose file has the name of a plan, or of a script
+const lab = (words, text, isPlan = false) => {
+  const file = join(room, isPlan ? 'text.plan' : 'text.mcs');
+  writeFileSync(file, text);
   const { stdout, status } = spawnSync(mcslab, [...words, file], { encoding: 'utf8', maxBuffer: 1 << 28 });
   return { text: stdout, status };
 };
 
-const compiled = plan => {
-  const file = join(room, 'plan.plan');
-  writeFileSync(file, plan);
-  return spawnSync(mcslab, ['compile', file], { encoding: 'utf8', maxBuffer: 1 << 28 }).stdout;
-};
+const compiled = plan => lab(['compile'], plan, true).text;
 
 // ---- the tests
 
@@ -120,43 +116,44 @@ const oneExample = async (path, text) => {
   const { script, isUsers } = JSON.parse(await run('JSON.stringify(made)'));
   const [group, name] = path.split('/');
   const beside = join(data, group === 'Scripts' ? '' : group.toLowerCase(), name.replace(/\.[a-z]*$/, ''));
-  if (name.endsWith('.plan')) {
+  const isPlan = name.endsWith('.plan');
+  if (isPlan) {
     if (hasLab) check(compiled(text) === script, `${path}: another script than mcslab's`);
     if (existsSync(`${beside}.mcs`)) check(readFileSync(`${beside}.mcs`, 'utf8') === script, `${path}: another script than the one beside it`);
   }
-  if (isUsers) await oneSearch(path, script);
-  else await oneRun(path, script, beside);
+  if (isUsers) await oneSearch(path, text, isPlan);
+  else await oneRun(path, text, isPlan, beside);
 };
 
-const oneRun = async (path, script, beside) => {
-  if (await has('mcs_draw')) await onePicture(path, script, beside);
-  const tap = JSON.parse(await run('(async () => JSON.stringify(await typing.call("mcs_check", made.script)))()'));
+const oneRun = async (path, text, isPlan, beside) => {
+  if (await has('mcs_draw')) await onePicture(path, text, isPlan, beside);
   if (!hasLab) return;
-  const want = lab(['check'], script);
-  check(want.text === tap.text && want.status === tap.status, `${path}: other verdicts than mcslab's`);
-  for (const [name, words] of [['mcs_why', ['why']], ['mcs_state', ['state', '--json']]]) {
-    if (!(await has(name))) continue;
-    const told = JSON.parse(await run(`(async () => JSON.stringify(await typing.call("${name}", made.script)))()`));
-    const wanted = lab(words, script);
-    check(wanted.text === told.text && wanted.status === told.status, `${path}: ${name} and mcslab tell other texts`);
+  const calls = [['callOf(typing, "mcs_check", made)', ['check']], ['callOf(typing, "mcs_why", made)', ['why']],
+    ['typing.call("mcs_state", made.script)', ['state', '--json']]];
+  for (const [call, words] of calls) {
+    const told = JSON.parse(await run(`(async () => JSON.stringify(await ${call}))()`));
+    const wanted = lab(words, text, isPlan);
+    check(wanted.text === told.text && wanted.status === told.status, `${path}: ${call} and mcslab tell other texts`);
   }
 };
 
 // Whether the module has an export; without it a view of the page is not there
 const has = name => run(`exported.has("${name}")`);
 
-const onePicture = async (path, script, beside) => {
+const onePicture = async (path, text, isPlan, beside) => {
   const svg = await run('picture && picture.text');
   check(Boolean(svg), `${path}: no picture`);
-  if (existsSync(`${beside}.svg`)) check(readFileSync(`${beside}.svg`, 'utf8') === svg, `${path}: another picture than the one beside it`);
-  if (hasLab) check(lab(['draw'], script).text === svg, `${path}: another picture than mcslab's`);
+  if (!isPlan && existsSync(`${beside}.svg`)) check(readFileSync(`${beside}.svg`, 'utf8') === svg, `${path}: another picture than the one beside it`);
+  if (hasLab) check(lab(['draw'], text, isPlan).text === svg, `${path}: another picture than mcslab's`);
+  const words = await run('find("step").textContent');
+  if (isPlan) check(!/^(Line \d+: )?\d+ t\d+ /.test(words), `${path}: a step has the script's words: ${words}`);
 };
 
-const oneSearch = async (path, script) => {
+const oneSearch = async (path, text, isPlan) => {
   await run('search()');
   const report = await run('report.text');
   check(report.length > 0, `${path}: no report`);
-  if (hasLab) check(lab(['explore', '--states', '20000'], script).text === report, `${path}: another report than mcslab's`);
+  if (hasLab) check(lab(['explore', '--states', '20000'], text, isPlan).text === report, `${path}: another report than mcslab's`);
   if (!(await run('Boolean(document.querySelector("#found button"))'))) return;
   await run('document.querySelector("#found button").click()');
   check(await until('!find("shown").hidden && picture && !find("picture").hidden'), `${path}: a click opens no picture`);
@@ -320,5 +317,5 @@ const main = async () => {
 await main().catch(fault => { failed += 1; console.log(`FAILED: ${fault.stack}`); });
 browser.kill();
 await new Promise(go => browser.once('exit', go));
-rmSync(room, { recursive: true, force: true });
+rmSync(room, { recursive: true, force: true, maxRetries: 9, retryDelay: 200 });
 process.exit(failed ? 1 : 0);

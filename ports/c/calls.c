@@ -44,6 +44,11 @@ static const char plan[] = "endpoint work\nreply work.reply\nthread client prio 
                            "client has work:wp=42\nserver has work:r work.reply\n"
                            "server: recv work work.reply\nclient: call work 7\n? server got 42 7\n";
 
+/* The same with users: the client is never answered, a deadlock. */
+static const char user_plan[] = "endpoint work\nreply work.reply\nthread client prio 10\nthread server prio 20\n"
+                                "client has work:wp=42\nserver has work:r work.reply\n"
+                                "user client: call work 7\nuser server: recv work work.reply\n";
+
 static int failed;
 static long left = NEVER;
 
@@ -169,6 +174,14 @@ static uint32_t explore_one(const uint8_t *text, size_t length, uint8_t *out, si
     return mcs_explore(text, length, 1, out, room, end);
 }
 
+static uint32_t explore_plan(const uint8_t *text, size_t length, uint8_t *out, size_t room, mcs_end *end) {
+    return mcs_explore_plan(text, length, STATES, out, room, end);
+}
+
+static uint32_t state_plan(const uint8_t *text, size_t length, uint8_t *out, size_t room, mcs_end *end) {
+    return mcs_state_plan(text, length, 8, out, room, end);
+}
+
 /* Calls of the tools: how each ends, and how its text begins. */
 static const struct tool {
     text_call call;
@@ -184,12 +197,22 @@ static const struct tool {
     {mcs_check, "cores 1\n#? t1 sleeps\n", MCS_REFUSED, 2, 10, "Bail out! line 2: "},
     {mcs_check, "cores 1\nendpoint\r\n", MCS_REFUSED, 2, 2, "Bail out! line 2: "},
     {mcs_compile, plan, MCS_OK, 0, 0, "#@ e1 work\n#@ r1 work.reply\n"},
-    {mcs_compile, "endpoint work\nendpoint work\n", MCS_REFUSED, 2, 13, "line 2: \"work\" is named twice\n"},
+    {mcs_compile, "endpoint work\nendpoint work\n", MCS_REFUSED, 2, 13, "line 2: \"work\" is named twice; first named in line 1, an endpoint\n"},
     {mcs_compile, "\xff", MCS_REFUSED, 1, 13, "line 1: its bytes are no text\n"},
     {explore, users, MCS_OK, 0, 0, ""},
     {explore_one, users, MCS_STOPPED, 0, 0, ""},
     {explore, "cores 1\nbad\n", MCS_REFUSED, 2, 2, "mcslab: line 2: fault 2: no form fits\n"},
     {explore, "cores 1\n#! bad\n", MCS_REFUSED, 2, 11, "mcslab: line 2: question: "},
+    {mcs_check_plan, plan, MCS_OK, 0, 0, "ok 1 - line 9: server got 42 7\n1..1\n"},
+    {mcs_check_plan, user_plan, MCS_REFUSED, 7, 14, "mcslab: line 7: this is a line of users: "},
+    {mcs_check_plan, "endpoint work\nendpoint work\n", MCS_REFUSED, 2, 13,
+     "Bail out! line 2: \"work\" is named twice; first named in line 1, an endpoint\n"},
+    {mcs_why_plan, plan, MCS_OK, 0, 0, ""},
+    {state_plan, plan, MCS_OK, 0, 0, "{"},
+    {mcs_draw_plan, plan, MCS_OK, 0, 0, "<svg "},
+    {explore_plan, user_plan, MCS_UNMET, 0, 0, ""},
+    {explore_plan, plan, MCS_REFUSED, 7, 14, "mcslab: line 7: this is a step: "},
+    {explore_plan, "endpoint work\n#! bad\n", MCS_REFUSED, 2, 11, "mcslab: line 2: question: "},
 };
 
 /* Each tool, with each size of its buffer up to the whole text and a little more. */

@@ -14,10 +14,10 @@
  *
  *   0 MCS_OK         done, and all that was wanted holds
  *   1 MCS_UNMET      done; something that is wanted does not hold (mcs_check, mcs_explore,
- *                    mcs_search), or something is stuck (mcs_why)
+ *                    mcs_search), or something is stuck (mcs_why); so for plans
  *   2 MCS_REFUSED    a line is refused: end->line says which, end->fault why
  *   3 MCS_STOPPED    the budget ended the search, and nothing failed so far (mcs_explore,
- *                    mcs_search)
+ *                    mcs_search; so for plans)
  *   5 MCS_BOOK_FULL  the book is full at a step
  *   6 MCS_NO_MEMORY  memory is refused: nothing is written, neither at `out` nor at `end`
  *   7 MCS_WRONG      never; it would be a fault of the library
@@ -29,6 +29,7 @@
  *   11      a question to all orders (#!) is refused
  *   12      a line of a program is refused
  *   13      a line of a plan is refused
+ *   14      a plan has users where steps are wanted, or steps where users are
  */
 #ifndef MCS_H
 #define MCS_H
@@ -53,7 +54,7 @@ enum {
 typedef struct {
     size_t length;  /* of the whole text */
     uint64_t line;  /* that is refused, from 1 on; else 0 */
-    uint64_t fault; /* why it is refused, 1 to 13; else 0 */
+    uint64_t fault; /* why it is refused, 1 to 14; else 0 */
 } mcs_end;
 
 /* Replays a script, as `mcssim replay` does. The text is its trace: the boot, and each step with
@@ -111,6 +112,31 @@ uint32_t mcs_state(const uint8_t *script, size_t script_length,
 /* Draws a script, as `mcslab draw` does. The text is SVG; a script without a boot has none. */
 uint32_t mcs_draw(const uint8_t *script, size_t script_length,
                   uint8_t *out, size_t room, mcs_end *end);
+
+/* The same of a plan, in its own words and lines, as mcslab does with a file NAME.plan: each is
+ * mcs_compile, the call of the script, and the text with the plan's names, steps and lines, of which
+ * end->line is one. Where no script comes of the plan, the text is that of mcs_compile, for
+ * mcs_check_plan behind `Bail out! `. */
+uint32_t mcs_check_plan(const uint8_t *plan, size_t plan_length,
+                        uint8_t *out, size_t room, mcs_end *end);
+
+uint32_t mcs_why_plan(const uint8_t *plan, size_t plan_length,
+                      uint8_t *out, size_t room, mcs_end *end);
+
+/* Writes the state after a line of the plan, as `mcslab state --json --at LINE` does; after its last
+ * one where the line is 0 or none of the plan's. JSON has the ids of the script. */
+uint32_t mcs_state_plan(const uint8_t *plan, size_t plan_length, uint64_t line,
+                        uint8_t *out, size_t room, mcs_end *end);
+
+uint32_t mcs_draw_plan(const uint8_t *plan, size_t plan_length,
+                       uint8_t *out, size_t room, mcs_end *end);
+
+uint32_t mcs_explore_plan(const uint8_t *plan, size_t plan_length, uint64_t states,
+                          uint8_t *out, size_t room, mcs_end *end);
+
+/* The report has the plan's words; the scripts behind it are scripts. */
+uint32_t mcs_search_plan(const uint8_t *plan, size_t plan_length, uint64_t states,
+                         uint8_t *out, size_t room, mcs_end *end);
 
 #ifdef __cplusplus
 }

@@ -1,6 +1,7 @@
 /* tool: the calls of mcs.h as commands, which read the standard input and write their text:
  *
  *   tool replay | steps | check | why | state | draw | compile | number | explore | search [STATES]
+ *   tool check_plan | why_plan | state_plan [LINE] | draw_plan | explore_plan | search_plan [STATES]
  *
  * With `steps` each line is a call of mcs_step, and the text is what these add. The exit status is
  * that of the call. A line that says why compile or explore has no text goes to standard error. */
@@ -9,9 +10,10 @@
 #include <stdlib.h>
 #include <string.h>
 
+/* `number` is how many states are found at most, or the line of a plan. */
 struct command {
     const char *name;
-    uint64_t states;
+    uint64_t number;
 };
 
 static uint8_t *read_all(size_t *length) {
@@ -34,9 +36,32 @@ static int is(const struct command *command, const char *name) {
     return !strcmp(command->name, name);
 }
 
+/* Writes at most `room` bytes of the text of one call on a plan. */
+static uint32_t fill_plan(const struct command *command, const uint8_t *text, size_t n, uint8_t *out, size_t room,
+                          mcs_end *end) {
+    if (is(command, "check_plan"))
+        return mcs_check_plan(text, n, out, room, end);
+    if (is(command, "why_plan"))
+        return mcs_why_plan(text, n, out, room, end);
+    if (is(command, "state_plan"))
+        return mcs_state_plan(text, n, command->number, out, room, end);
+    if (is(command, "draw_plan"))
+        return mcs_draw_plan(text, n, out, room, end);
+    if (is(command, "explore_plan"))
+        return mcs_explore_plan(text, n, command->number, out, room, end);
+    return mcs_search_plan(text, n, command->number, out, room, end);
+}
+
+/* Whether the call is one on a plan in its own words. */
+static int is_of_plan(const struct command *command) {
+    return strstr(command->name, "_plan") != NULL;
+}
+
 /* Writes at most `room` bytes of the text of one call; `line` is that of a step. */
 static uint32_t fill(const struct command *command, const uint8_t *text, size_t n, const uint8_t *line, size_t m,
                      uint8_t *out, size_t room, mcs_end *end) {
+    if (is_of_plan(command))
+        return fill_plan(command, text, n, out, room, end);
     if (is(command, "steps"))
         return mcs_step(text, n, line, m, out, room, end);
     if (is(command, "check"))
@@ -44,9 +69,9 @@ static uint32_t fill(const struct command *command, const uint8_t *text, size_t 
     if (is(command, "compile"))
         return mcs_compile(text, n, out, room, end);
     if (is(command, "explore"))
-        return mcs_explore(text, n, command->states, out, room, end);
+        return mcs_explore(text, n, command->number, out, room, end);
     if (is(command, "search"))
-        return mcs_search(text, n, command->states, out, room, end);
+        return mcs_search(text, n, command->number, out, room, end);
     if (is(command, "number"))
         return mcs_number(text, n, out, room, end);
     if (is(command, "why"))
@@ -59,8 +84,11 @@ static uint32_t fill(const struct command *command, const uint8_t *text, size_t 
 }
 
 /* Whether the text says why there is none. */
-static int is_reason(const struct command *command, uint32_t status) {
-    return (is(command, "compile") || is(command, "explore")) && (status == MCS_REFUSED || status == MCS_BOOK_FULL);
+static int is_reason(const struct command *command, uint32_t status, const mcs_end *end) {
+    int is_refused = status == MCS_REFUSED || status == MCS_BOOK_FULL;
+    int is_other = end->fault == 14 || (end->fault == 13 && is_of_plan(command) && !is(command, "check_plan"));
+    int has_none = is(command, "compile") || is(command, "explore") || is(command, "explore_plan");
+    return is_refused && (has_none || is_other);
 }
 
 /* Writes the text of one call: once more where the first room did not do. Traces of short steps
@@ -75,7 +103,7 @@ static uint32_t call(const struct command *command, const uint8_t *text, size_t 
         uint32_t status = fill(command, text, n, line, m, out, room, end);
         int is_whole = status == MCS_NO_MEMORY || end->length <= room;
         if (is_whole && status != MCS_NO_MEMORY)
-            fwrite(out, 1, end->length, is_reason(command, status) ? stderr : stdout);
+            fwrite(out, 1, end->length, is_reason(command, status, end) ? stderr : stdout);
         free(out);
         if (is_whole)
             return status;

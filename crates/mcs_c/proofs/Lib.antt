@@ -1,3 +1,4 @@
 mod Replayed
 mod Checked
 mod Explored
+mod Planned

@@ -41,7 +41,7 @@ pub record IsChecked (script : List ℕ) (e : Ending) : Type 0 where
   pub holds : e.status ≡ 0 → holds_throughout script ≡ true
   pub fails : e.status ≡ 1 → holds_throughout script ≡ false
 
--- what `mcs_check` leaves: of a text as much as there is room for, with how a check was answered
+-- what `mcs_check` leaves: of a text as much as fits, with how a check was answered
 pub record Checks (script : List ℕ) (status : ℕ) (old new : List ℕ) (end : McsEnd) : Type 0 where
   pub text : List ℕ
   pub ending : Ending
@@ -55,8 +55,8 @@ pub record IsTold (e : Ending) : Type 0 where
   pub is : e ≡ check_ending answer
   pub granted : e.status ≡ 6 → ⊥
 
--- what a call leaves that explains, shows or draws a script: of a text as much as there is room
--- for, with how it was answered
+-- what a call leaves that explains, shows or draws a script: of a text as much as fits, with how it
+-- was answered
 pub record Tells (status : ℕ) (old new : List ℕ) (end : McsEnd) : Type 0 where
   pub text : List ℕ
   pub ending : Ending

@@ -1,14 +1,13 @@
 -- What comes of a plan.
-use Rattle.std.specs.Prelude.{◌≡◌, ◌⊎◌, ℕ, List, ◌++◌}
+use Rattle.std.specs.Prelude.{◌≡◌, ◌⊎◌, ℕ, List}
 use Rattle.mcs_types.specs.declared.boot.BootFault.TheVariants as boot_fault
 use Rattle.mcs_phases.specs.declared.fault.SimFault.TheVariants as sim_fault
 use Rattle.mcs_plan_source.specs.declared.fault.Why.{Why}
 use Rattle.mcs_plan_source.specs.declared.fault.Why.TheVariants as why
 use Rattle.mcs_plan_source.specs.declared.fault.PlanFault.{PlanFault}
-use Rattle.mcs_plan_layout.specs.declared.laid.Laid.{Laid}
-use Rattle.mcs_plan_validate.specs.Reading.{IsVouched}
 use Rattle.mcs_plan_validate.specs.declared.fault.CompileFault.{CompileFault}
 use Rattle.mcs_plan_validate.specs.declared.fault.CompileFault.TheVariants as fault
+use Rattle.mcs_plan_words.specs.Scripts.{IsScriptOfPlan}
 use Rattle.mcs_c.specs.declared.handing.Ending.{Ending}
 use Rattle.mcs_c.specs.declared.handing.McsEnd.{McsEnd}
 use Rattle.mcs_c.specs.Handing.{Ends, HandsOut, at_line, with_status}
@@ -29,28 +28,17 @@ compile_ending (fault.Boot boot_fault.OutOfMemory) = with_status 6
 compile_ending fault.OutOfMemory = with_status 6
 compile_ending f = with_status 7
 
--- a text is the script of a plan that is laid out: what of it was read back, a script of steps
--- without a fault with the plan's boot, in which each name leads to what its slot holds; and the
--- lines of users after it, if it has some
-pub record IsScriptOfPlan (text : List ℕ) : Type 0 where
-  pub laid : Laid
-  pub read : List ℕ
-  pub users : List ℕ
-  pub is : text ≡ read ++ users
-  pub vouched : IsVouched read laid
-
 -- a call ends so by some fault of a plan, and memory was not refused
 pub record IsPlanRefused (e : Ending) : Type 0 where
   pub fault : CompileFault
   pub is : e ≡ compile_ending fault
   pub granted : e.status ≡ 6 → ⊥
 
--- a plan became a script with this text, or none came of it
+-- a plan became a script with this text, or there is none
 abbrev pub IsCompiled : List ℕ → Ending → Type 0
 IsCompiled text e = ((e ≡ with_status 0) × IsScriptOfPlan text) ⊎ IsPlanRefused e
 
--- what `mcs_compile` leaves: of the script of a plan, or of why there is none, as much as there is
--- room for
+-- what `mcs_compile` leaves: of the script of a plan, or of why there is none, as much as fits
 pub record Compiles (status : ℕ) (old new : List ℕ) (end : McsEnd) : Type 0 where
   pub text : List ℕ
   pub ending : Ending
@@ -58,11 +46,11 @@ pub record Compiles (status : ℕ) (old new : List ℕ) (end : McsEnd) : Type 0 
   pub ends : Ends ending status end
   pub is : IsCompiled text ending
 
--- of a plan that became a script the lines were numbered, or none came of it
+-- of a plan that became a script the lines were numbered, or there is none
 abbrev pub IsNumbered : Ending → Type 0
 IsNumbered e = (e ≡ with_status 0) ⊎ IsPlanRefused e
 
--- what `mcs_number` leaves: of a text as much as there is room for, with how a plan was compiled
+-- what `mcs_number` leaves: of a text as much as fits, with how a plan was compiled
 pub record Numbers (status : ℕ) (old new : List ℕ) (end : McsEnd) : Type 0 where
   pub text : List ℕ
   pub ending : Ending

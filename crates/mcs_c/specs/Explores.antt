@@ -11,7 +11,7 @@ use Rattle.mcs_c.specs.declared.handing.McsEnd.{McsEnd}
 use Rattle.mcs_c.specs.Checks.{lab_ending}
 use Rattle.mcs_c.specs.Handing.{Ends, HandsOut, at_line, with_status}
 
--- how a call ends by what came of a search
+-- how a call ends by the result of a search
 abbrev pub explored_ending : Explored → Ending
 explored_ending explored.Holds = with_status 0
 explored_ending explored.Fails = with_status 1
@@ -38,7 +38,7 @@ pub record IsExplored (script : List ℕ) (e : Ending) : Type 0 where
   pub holds : e.status ≡ 0 → HasReadHolding false (Some script) (Some [])
   pub fails : e.status ≡ 1 → HasReadFailing false (Some script) (Some [])
 
--- what `mcs_explore` leaves: of a text as much as there is room for, with how a search was answered
+-- what `mcs_explore` leaves: of a text as much as fits, with how a search was answered
 pub record Explores (script : List ℕ) (status : ℕ) (old new : List ℕ) (end : McsEnd) : Type 0 where
   pub text : List ℕ
   pub ending : Ending

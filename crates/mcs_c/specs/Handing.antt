@@ -3,11 +3,11 @@ use Rattle.std.specs.Prelude.{◌≡◌, ℕ, List, ◌++◌, length, take, drop
 use Rattle.mcs_c.specs.declared.handing.Ending.{Ending}
 use Rattle.mcs_c.specs.declared.handing.McsEnd.{McsEnd}
 
--- of a text as much was written as there was room for, and what lies behind it stayed
+-- of a text as much was written as there was room for, and the bytes after it are unchanged
 abbrev pub Fills : (text old new : List ℕ) → Type 0
 Fills text old new = new ≡ take (length old) text ++ drop (length text) old
 
--- so, and the text has so many bytes in all
+-- the text is handed out as far as it fits, and has this many bytes in all
 pub record HandsOut (text old new : List ℕ) (n : ℕ) : Type 0 where
   pub bytes : Fills text old new
   pub whole : n ≡ length text

@@ -82,9 +82,9 @@ pub record IsEnd (answer : Result (Unit {0}) SimFault) (status : ℕ) (end : Mcs
   pub line : end.line ≡ line_of answer
   pub why : end.fault ≡ why_of answer
 
--- what `mcs_replay` leaves: of the script's trace as much as there is room for. It is the trace of
--- the steps up to the end of the script, its first faulty line, or the first step for which the
--- book is full, and the book is legal and fair
+-- what `mcs_replay` leaves: of the script's trace as much as fits. It is the trace of the steps up
+-- to the end of the script, its first faulty line, or the first step for which the book is full,
+-- and the book is legal and fair
 pub record Replays (script : List ℕ) (status : ℕ) (old new : List ℕ) (end : McsEnd) : Type 0 where
   pub wrote : HandsOut (trace_of (course_of script).stands.book) old new end.length
   pub ends : IsEnd (answer_of (course_of script).fault) status end
@@ -92,7 +92,7 @@ pub record Replays (script : List ℕ) (status : ℕ) (old new : List ℕ) (end 
   pub fair : IsFairBook (course_of script).stands.book
 
 -- what `mcs_step` leaves: of what the line adds to the trace of the script before it as much as
--- there is room for
+-- fits
 pub record Steps (script line : List ℕ) (status : ℕ) (old new : List ℕ) (end : McsEnd) : Type 0 where
   pub more : List ℕ
   pub adds : trace_so_far (after (going script) line) ≡ trace_so_far (going script) ++ more

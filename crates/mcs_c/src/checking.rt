@@ -25,8 +25,8 @@ fn why_number(why: Option<LineFault>) -> u64
     }
 }
 
-/// How a call ends by a fault of a script that is checked or explored. A text in memory refuses a
-/// write only where memory is refused.
+/// Returns how a call ends after a fault of a script that is checked or explored. Memory as a
+/// writer fails only if an allocation does.
 pub(crate) fn lab_ending(fault: LabFault) -> Ending
     ensures { result ≡ lab_ending fault }
 {
@@ -42,7 +42,7 @@ pub(crate) fn lab_ending(fault: LabFault) -> Ending
     }
 }
 
-/// How a call ends where it was answered so.
+/// Returns how a call of `mcs_check` ends after this answer of `check`.
 pub(crate) fn check_ending(answer: Result<bool, LabFault>) -> Ending
     ensures { result ≡ check_ending answer }
 {
@@ -53,8 +53,8 @@ pub(crate) fn check_ending(answer: Result<bool, LabFault>) -> Ending
     }
 }
 
-/// Returns whether the lines of a script hold, or do not, as was answered. No clause of `check`
-/// says that its answer is that of the definition.
+/// Judges the lines of a script a second time, and returns whether the result is `met`. No clause
+/// of `check` says that its answer is that of the definition.
 fn is_borne_out(alloc: Global, script: &[u8], met: bool) -> Result<bool, OutOfMemory>
     ensures { IfOk result (λ is. is ≡ true → met ≡ holds_throughout script.now) }
 {
@@ -74,7 +74,7 @@ fn is_borne_out(alloc: Global, script: &[u8], met: bool) -> Result<bool, OutOfMe
     }
 }
 
-/// How a call ends where a check was answered so. An answer that is not borne out is not given.
+/// Returns how a check ends, with status 7 if the second judgement differs.
 #[tactic(auto, using(crate::proofs::Checked::checked_met, crate::proofs::Checked::checked_wrong))]
 fn ending_of(
     alloc: Global,
@@ -93,8 +93,8 @@ fn ending_of(
     Ok(check_ending(Ok(met)))
 }
 
-/// Checks a script, and returns the verdicts, with how the call ends.
-fn check_text(alloc: Global, script: &[u8]) -> Result<Handed, OutOfMemory>
+/// Checks a script, and returns the verdicts and how the call ends.
+pub(crate) fn check_text(alloc: Global, script: &[u8]) -> Result<Handed, OutOfMemory>
     ensures { IfOk result (λ h. IsChecked script.now h.ending) }
 {
     let mut text = Vec::new(alloc);
@@ -103,10 +103,10 @@ fn check_text(alloc: Global, script: &[u8]) -> Result<Handed, OutOfMemory>
     Ok(Handed { text, ending })
 }
 
-/// Checks what a script says of its steps, and writes as much of the verdicts as there is room for.
-/// Returns 0 where all hold and 1 where some does not; 2 where a line is refused and 5 where the
-/// book is full, and the last verdict says so; 6 where memory is refused, and nothing is written; 7
-/// where the verdicts are not those of the definition, which nobody has seen.
+/// Checks what a script expects of its steps, and writes as much of the verdicts as fits. Returns 0
+/// if all hold and 1 if some does not; 2 if a line is refused and 5 if the book is full, and the
+/// last verdict says so; 6 if an allocation fails, and nothing is written; 7 if the verdicts differ
+/// from the definition's, which was never seen.
 #[unsafe(no_mangle)]
 pub extern "C" fn mcs_check(alloc: Global, script: &[u8], out: &mut [u8], end: &mut McsEnd) -> u32
     ensures { IsRefused result out.old out.new end.old end.new

@@ -1,11 +1,13 @@
 //! Plans that become scripts.
 ghost use Rattle.std.specs.Prelude.{◌≡◌, ◌⊎◌, ◌++◌, IfOk};
 ghost use Rattle.mcs_c.specs.Handing.{IsRefused, with_status};
-ghost use Rattle.mcs_c.specs.Compiles.{Compiles, IsCompiled, IsNumbered, IsPlanRefused, IsScriptOfPlan, Numbers, compile_ending, plan_ending};
+ghost use Rattle.mcs_c.specs.Compiles.{Compiles, IsCompiled, IsNumbered, IsPlanRefused, Numbers, compile_ending, plan_ending};
+ghost use Rattle.mcs_plan_words.specs.Scripts.{IsScriptOfPlan};
 
 use crate::handing::{Ending, Handed, McsEnd, NO_MEMORY, WRONG};
 use mcs_plan_source::{PlanFault, Why};
 use mcs_plan_validate::{CompileFault, Compiled, Loaded, load};
+use mcs_plan_words::reason_line;
 use mcs_sim::SimFault;
 use mcs_types::{BootFault, OutOfMemory};
 use std::alloc::Global;
@@ -14,7 +16,7 @@ use std::io::Write;
 /// The number of a line of a plan that is refused.
 const PLAN_LINE: u64 = 13;
 
-/// How a call ends by a line of a plan that is refused, or by memory.
+/// Returns how a call ends by a refused line of a plan, or by a failed allocation.
 fn plan_ending(fault: &PlanFault) -> Ending
     ensures { result ≡ plan_ending fault.now }
 {
@@ -24,7 +26,7 @@ fn plan_ending(fault: &PlanFault) -> Ending
     }
 }
 
-/// How a call ends where no script comes of a plan.
+/// Returns how a call ends if a plan does not compile.
 fn compile_ending(fault: &CompileFault) -> Ending
     ensures { result ≡ compile_ending fault.now }
 {
@@ -55,19 +57,32 @@ fn whole_text(compiled: Compiled) -> Result<Vec<u8>, OutOfMemory>
     Ok(text)
 }
 
-/// Returns a line that says why no script comes of a plan, with how the call ends.
-fn refuse(alloc: Global, fault: &CompileFault) -> Result<Handed, OutOfMemory>
+/// Returns a line that says why a plan does not compile, and how the call ends.
+pub(crate) fn refuse_with(
+    alloc: Global,
+    fault: &CompileFault,
+    line: &str,
+) -> Result<Handed, OutOfMemory>
     ensures { IfOk result (λ h. IsPlanRefused h.ending) }
 {
     let ending = compile_ending(fault).granted()?;
-    let mut text = Vec::new(alloc);
-    match writeln!(text, "{fault}") {
-        Ok(()) => Ok(Handed { text, ending }),
-        Err(_) => Err(OutOfMemory),
-    }
+    let text = Vec::from_slice(alloc, line.as_bytes())?;
+    Ok(Handed { text, ending })
 }
 
-/// Compiles a plan, and returns the script, or why there is none, with how the call ends.
+/// Returns a line that says why no script comes of a plan, with how the call ends.
+pub(crate) fn refuse(
+    alloc: Global,
+    plan: &[u8],
+    fault: &CompileFault,
+) -> Result<Handed, OutOfMemory>
+    ensures { IfOk result (λ h. IsPlanRefused h.ending) }
+{
+    let line = reason_line(alloc, plan, fault)?;
+    refuse_with(alloc, fault, line.as_str())
+}
+
+/// Compiles a plan, and returns the script, or why there is none, and how the call ends.
 fn compile_text(alloc: Global, plan: &[u8]) -> Result<Handed, OutOfMemory>
     ensures { IfOk result (λ h. IsCompiled h.text.items h.ending) }
 {
@@ -76,11 +91,11 @@ fn compile_text(alloc: Global, plan: &[u8]) -> Result<Handed, OutOfMemory>
             text: whole_text(compiled)?,
             ending: Ending::of_status(0),
         }),
-        Err(fault) => refuse(alloc, &fault),
+        Err(fault) => refuse(alloc, plan, &fault),
     }
 }
 
-/// Returns numbers, each in a line of its own.
+/// Returns numbers, one a line.
 fn lines_of(alloc: Global, numbers: &[u64]) -> Result<Vec<u8>, OutOfMemory> {
     let mut text = Vec::new(alloc);
     for number in numbers {
@@ -91,8 +106,8 @@ fn lines_of(alloc: Global, numbers: &[u64]) -> Result<Vec<u8>, OutOfMemory> {
     Ok(text)
 }
 
-/// Compiles a plan, and returns of which of its lines each line of the script came, or why there is
-/// no script, with how the call ends.
+/// Compiles a plan, and returns for each line of the script the plan's line from which it came, or
+/// why there is no script, and how the call ends.
 fn number_text(alloc: Global, plan: &[u8]) -> Result<Handed, OutOfMemory>
     ensures { IfOk result (λ h. IsNumbered h.ending) }
 {
@@ -101,13 +116,12 @@ fn number_text(alloc: Global, plan: &[u8]) -> Result<Handed, OutOfMemory>
             text: lines_of(alloc, &numbers)?,
             ending: Ending::of_status(0),
         }),
-        Err(fault) => refuse(alloc, &fault),
+        Err(fault) => refuse(alloc, plan, &fault),
     }
 }
 
-/// Compiles a plan, and writes as much of the script as there is room for. Returns 0 where there is
-/// a script; 2 where a line is refused, and the text says why; 6 where memory is refused, and
-/// nothing is written.
+/// Compiles a plan, and writes as much of the script as fits. Returns 0 if there is a script; 2 if
+/// a line is refused, and the text says why; 6 if an allocation fails, and nothing is written.
 #[unsafe(no_mangle)]
 pub extern "C" fn mcs_compile(alloc: Global, plan: &[u8], out: &mut [u8], end: &mut McsEnd) -> u32
     ensures { IsRefused result out.old out.new end.old end.new
@@ -119,9 +133,8 @@ pub extern "C" fn mcs_compile(alloc: Global, plan: &[u8], out: &mut [u8], end: &
     }
 }
 
-/// Compiles a plan, and writes as much as there is room for of the numbers of its lines: for each
-/// line of the script that of the line of which it came, in a line of its own. The statuses are
-/// those of `mcs_compile`.
+/// Compiles a plan, and writes as many line numbers as fit: for each line of the script the plan's
+/// line from which it came, one a line. The statuses are those of `mcs_compile`.
 #[unsafe(no_mangle)]
 pub extern "C" fn mcs_number(alloc: Global, plan: &[u8], out: &mut [u8], end: &mut McsEnd) -> u32
     ensures { IsRefused result out.old out.new end.old end.new

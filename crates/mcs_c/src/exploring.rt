@@ -21,7 +21,7 @@ const PROGRAM: u64 = 12;
 
 /// Keeps no script.
 #[derive(Drop)]
-struct Nowhere;
+pub(crate) struct Nowhere;
 
 impl Saves for Nowhere {
     fn wants(&self) -> bool {
@@ -39,7 +39,7 @@ impl Saves for Nowhere {
     }
 }
 
-/// How a call ends by what came of a search.
+/// Returns how a call ends after this result of a search.
 fn explored_ending(explored: Explored) -> Ending
     ensures { result ≡ explored_ending explored }
 {
@@ -50,7 +50,7 @@ fn explored_ending(explored: Explored) -> Ending
     }
 }
 
-/// How a call ends where a script is not explored to the end.
+/// Returns how a call ends if a script cannot be explored to the end.
 fn fault_ending(fault: &ExploreFault) -> Ending
     ensures { result ≡ explore_fault_ending fault.now }
 {
@@ -76,8 +76,27 @@ fn refuse(alloc: Global, fault: &ExploreFault) -> Result<Handed, OutOfMemory>
 
 /// Keeps scripts as one text: before each a line `== NAME`, as no line of a script begins.
 #[derive(Drop)]
-struct Kept {
+pub(crate) struct Kept {
     text: Vec<u8>,
+}
+
+impl Kept {
+    /// Returns a text that has no script.
+    pub(crate) fn new(alloc: Global) -> Kept {
+        Kept {
+            text: Vec::new(alloc),
+        }
+    }
+
+    /// Adds the scripts behind a report.
+    pub(crate) fn behind(&self, report: Handed) -> Result<Handed, OutOfMemory>
+        ensures { IfOk result (λ h. h.ending ≡ report.ending) }
+    {
+        let Handed { text, ending } = report;
+        let mut text = text;
+        text.extend_from_slice(&self.text)?;
+        Ok(Handed { text, ending })
+    }
 }
 
 impl Saves for Kept {
@@ -100,9 +119,9 @@ impl Saves for Kept {
     }
 }
 
-/// Goes through all orders of a script, as far as so many states, and returns the report, or why
-/// there is none, with how the call ends.
-fn explore_text<S: Saves>(
+/// Searches all orders of a script, up to `states` states, and returns the report, or why there is
+/// none, and how the call ends.
+pub(crate) fn explore_text<S: Saves>(
     alloc: Global,
     script: &[u8],
     states: u64,
@@ -130,24 +149,19 @@ fn explore_text<S: Saves>(
     }
 }
 
-/// Does the same, and returns behind the report the scripts of what it says.
+/// Searches as `explore_text` does, and appends the scripts of the findings to the report.
 fn search_text(alloc: Global, script: &[u8], states: u64) -> Result<Handed, OutOfMemory>
     ensures { IfOk result (λ h. IsExplored script.now h.ending) }
 {
-    let mut kept = Kept {
-        text: Vec::new(alloc),
-    };
-    let Handed { text, ending } = explore_text(alloc, script, states, &mut kept)?;
-    let mut text = text;
-    text.extend_from_slice(&kept.text)?;
-    Ok(Handed { text, ending })
+    let mut kept = Kept::new(alloc);
+    let report = explore_text(alloc, script, states, &mut kept)?;
+    kept.behind(report)
 }
 
-/// Goes through all orders of the users of a script, as far as so many states, and writes as much
-/// of the report as there is room for. Returns 0 where all that is asked holds, 1 where something
-/// fails, and 3 where the budget ended the search and nothing failed so far; 2 where a line is
-/// refused and 5 where the book is full, and the text says why; 6 where memory is refused, and
-/// nothing is written.
+/// Searches all orders of the users of a script, up to `states` states, and writes as much of the
+/// report as fits. Returns 0 if all questions hold, 1 if something fails, and 3 if the budget ended
+/// the search and nothing failed so far; 2 if a line is refused and 5 if the book is full, and the
+/// text says why; 6 if an allocation fails, and nothing is written.
 #[unsafe(no_mangle)]
 pub extern "C" fn mcs_explore(
     alloc: Global,
@@ -165,8 +179,8 @@ pub extern "C" fn mcs_explore(
     }
 }
 
-/// Does the same, and writes behind the report the shortest scripts of steps to each kind of end,
-/// to users that are stuck and to what a question asks, each behind a line `== NAME`.
+/// Searches as `mcs_explore` does, and appends to the report the shortest scripts to each kind of
+/// end, to stuck users and to what a question asks, each after a line `== NAME`.
 #[unsafe(no_mangle)]
 pub extern "C" fn mcs_search(
     alloc: Global,

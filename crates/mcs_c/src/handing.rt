@@ -1,4 +1,4 @@
-//! How a call ends, and its text, in memory of the caller's.
+//! The result of a call: its text in the caller's buffer, and how it ended.
 ghost use Rattle.std.specs.Prelude.{◌≡◌, IfOk, OnErr};
 ghost use Rattle.mcs_c.specs.Handing.{Ends, HandsOut, at_line, with_status};
 
@@ -8,18 +8,18 @@ use mcs_types::OutOfMemory;
 #[repr(C)]
 #[derive(Clone, Copy)]
 pub struct McsEnd {
-    /// How many bytes the whole text has, also where there was no room for all of them.
+    /// How many bytes the whole text has, even if there was no room for all of them.
     pub length: usize,
-    /// The line that is refused; 0 where none is.
+    /// The line that is refused; 0 if none is.
     pub line: u64,
-    /// Why it is, by the numbers of `docs/FORMS.md`; 0 where none is.
+    /// Why it is, by the numbers of `docs/FORMS.md`; 0 if none is.
     pub fault: u64,
 }
 
-/// The status where memory is refused.
+/// The status if an allocation fails.
 pub(crate) const NO_MEMORY: u32 = 6;
 
-/// The status that no call returns; it would be a fault of the library.
+/// A status that only a fault of the library could give.
 pub(crate) const WRONG: u32 = 7;
 
 /// Writes as much of a text as there is room for, and returns how many bytes all of it has.
@@ -31,7 +31,7 @@ pub(crate) fn hand_out(text: &[u8], out: &mut [u8]) -> usize
     text.len()
 }
 
-/// A status, with the line that is refused and why; both are 0 where none is.
+/// A status, with the line that is refused and why; both are 0 if none is.
 #[derive(Clone, Copy)]
 pub(crate) struct Ending {
     pub(crate) status: u32,
@@ -62,7 +62,7 @@ impl Ending {
         }
     }
 
-    /// Fails where memory was refused.
+    /// Fails if the ending is that of a failed allocation.
     pub(crate) fn granted(self) -> Result<Ending, OutOfMemory>
         ensures same { IfOk result (λ e. e ≡ self) }
         ensures granted { IfOk result (λ e. e.status ≡ 6 → ⊥) }
@@ -83,7 +83,7 @@ pub(crate) struct Handed {
 }
 
 impl Handed {
-    /// Hands the text out, with how the call ends, and returns the status.
+    /// Writes the text and how the call ended, and returns the status.
     pub(crate) fn hand_over(&self, out: &mut [u8], end: &mut McsEnd) -> u32
         ensures wrote { HandsOut self.now.text.items out.old out.new end.new.length }
         ensures ends { Ends self.now.ending result end.new }

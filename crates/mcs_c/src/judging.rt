@@ -1,4 +1,4 @@
-//! Whether what a script says of its steps holds, by the definition of its verdicts.
+//! A second judgement of a script's expectations, by the definition of verdicts.
 ghost use Rattle.std.specs.Prelude.{◌≡◌, IfOk};
 ghost use Rattle.mcs_lab_check.specs.Checked.{judged};
 ghost use Rattle.mcs_c.specs.Verdicts.{holds_throughout, is_met, whole_line};
@@ -7,7 +7,7 @@ use mcs_lab_check::{Judge, LabFault, Told};
 use mcs_text::Lines;
 use std::alloc::Global;
 
-/// Returns whether a line holds; so it does where it wants nothing.
+/// Returns whether a line holds; a line that expects nothing does.
 fn is_met(told: Told) -> bool
     ensures { result ≡ is_met told }
 {
@@ -18,7 +18,7 @@ fn is_met(told: Told) -> bool
     }
 }
 
-/// Takes a line, and returns whether it holds.
+/// Judges a line, and returns whether it holds.
 fn take(alloc: Global, judge: &mut Judge, line: &[u8]) -> Result<bool, LabFault>
     ensures { IfOk result (λ met. (met ≡ is_met (judged judge.old (whole_line line.now)).0)
         × (judge.new ≡ (judged judge.old (whole_line line.now)).1)) }

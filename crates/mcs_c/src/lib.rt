@@ -1,19 +1,19 @@
-//! The simulator and its tools as a library for C, and for a page (`web/`): bytes in, bytes
-//! out.
+//! The simulator and its tools as a library for C, and for a page (`web/`): bytes in, bytes out.
 //!
 //! ```text
 //! C ── script ──> mcs_replay ── trace ──> C        the whole text
 //! C ── text so far, line ──> mcs_step ── what it adds ──> C
 //! C ── script ──> mcs_check ── verdicts ──> C
 //! C ── plan ──> mcs_compile ── script ──> C
-//! C ── plan ──> mcs_number ── the lines of which the script's came ──> C
-//! C ── script ──> mcs_why, mcs_state, mcs_draw ── what did nothing, state, picture ──> C
+//! C ── plan ──> mcs_number ── the plan's line for each line of the script ──> C
+//! C ── script ──> mcs_why, mcs_state, mcs_draw ── explanation, state, picture ──> C
 //! C ── script of users, states ──> mcs_explore, mcs_search ── report; with scripts ──> C
+//! C ── plan ──> mcs_check_plan, mcs_why_plan, .. ── the same in the plan's words ──> C
 //! ```
 //!
-//! Nothing is kept between two calls, and no call calls C back. `ports/c/mcs.h` has the same
-//! functions as C declares them. Each writes as much of its text as there is room for into memory
-//! of the caller's, and how it ended into an `McsEnd`; where memory is refused it writes neither.
+//! No call keeps state or calls C back. `ports/c/mcs.h` declares the same functions for C. Each
+//! writes as much of its text as fits into the caller's buffer, and how it ended into an `McsEnd`;
+//! if an allocation fails, it writes neither.
 #![tactic(auto)]
 
 mod checking;
@@ -21,6 +21,9 @@ mod compiling;
 mod exploring;
 mod handing;
 mod judging;
+mod plan_orders;
+mod plan_words;
+mod plans;
 mod replaying;
 mod showing;
 mod telling;

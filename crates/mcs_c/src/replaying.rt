@@ -1,4 +1,4 @@
-//! Scripts of steps: whole, or a line more.
+//! Replays of scripts: whole, or with one more line.
 ghost use Rattle.std.specs.Prelude.{◌≡◌, ◌⊎◌, IfOk};
 ghost use Rattle.mcs_c.specs.Handing.{HandsOut, IsRefused};
 ghost use Rattle.mcs_c.specs.Replays.{going, IsEnd, IsReplay, IsStep, Replays, Steps};
@@ -44,7 +44,7 @@ fn step(alloc: Global, script: &[u8], line: &[u8]) -> Result<Told, OutOfMemory>
     tell(alloc, &mut run, line, Vec::new(alloc))
 }
 
-/// How a call tells that a run ended so, with a text of this length.
+/// Returns the status and the end of a call after this result of a run, with a text of this length.
 fn ending(ended: Result<(), SimFault>, length: usize) -> (u32, McsEnd)
     ensures ends { IsEnd ended result.0 result.1 }
     ensures length { result.1.length ≡ length }
@@ -78,9 +78,9 @@ fn finish(told: &Told, out: &mut [u8], end: &mut McsEnd) -> u32
     status
 }
 
-/// Replays a script, and writes as much of its trace as there is room for. Returns 0 where the
-/// whole script is replayed; 2 where a line is refused and 5 where the book is full, and the trace
-/// is that of the steps before; 6 where memory is refused, and nothing is written.
+/// Replays a script, and writes as much of its trace as there is room for. Returns 0 if the whole
+/// script is replayed; 2 if a line is refused and 5 if the book is full, and the trace is that of
+/// the steps before; 6 if an allocation fails, and nothing is written.
 #[unsafe(no_mangle)]
 #[tactic(auto, using(crate::proofs::Replayed::replays))]
 pub extern "C" fn mcs_replay(alloc: Global, script: &[u8], out: &mut [u8], end: &mut McsEnd) -> u32

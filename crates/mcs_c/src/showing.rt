@@ -1,4 +1,4 @@
-//! What is told of a script: why its steps did nothing, the state at its end, and its picture.
+//! Views of a script: why its steps did nothing, the state at its end, and its picture.
 ghost use Rattle.std.specs.Prelude.{◌≡◌, ◌⊎◌, IfOk};
 ghost use Rattle.mcs_c.specs.Handing.{IsRefused};
 ghost use Rattle.mcs_c.specs.Checks.{IsTold, Tells};
@@ -12,7 +12,7 @@ use mcs_sim::Source;
 use mcs_types::OutOfMemory;
 use std::alloc::Global;
 
-/// Returns a text with how the call ends that wrote it, by what was answered.
+/// Returns a text, and how the call that wrote it ends after this answer.
 fn hand(text: Vec<u8>, answer: Result<bool, LabFault>) -> Result<Handed, OutOfMemory>
     ensures { IfOk result (λ h. IsTold h.ending) }
 {
@@ -21,7 +21,7 @@ fn hand(text: Vec<u8>, answer: Result<bool, LabFault>) -> Result<Handed, OutOfMe
 }
 
 /// Explains a script, and returns what is said, with how the call ends.
-fn why_text(alloc: Global, script: &[u8]) -> Result<Handed, OutOfMemory>
+pub(crate) fn why_text(alloc: Global, script: &[u8]) -> Result<Handed, OutOfMemory>
     ensures { IfOk result (λ h. IsTold h.ending) }
 {
     let mut text = Vec::new(alloc);
@@ -29,13 +29,18 @@ fn why_text(alloc: Global, script: &[u8]) -> Result<Handed, OutOfMemory>
     hand(text, answer)
 }
 
-/// Returns the state at the end of a script as JSON, with how the call ends.
-fn state_text(alloc: Global, script: &[u8]) -> Result<Handed, OutOfMemory>
+/// Returns the state behind a line of a script as JSON, or at its end where none is named, with how
+/// the call ends.
+pub(crate) fn state_text(
+    alloc: Global,
+    script: &[u8],
+    at: Option<u64>,
+) -> Result<Handed, OutOfMemory>
     ensures { IfOk result (λ h. IsTold h.ending) }
 {
     let mut text = Vec::new(alloc);
     let wanted = Wanted {
-        at: None,
+        at,
         stuck: false,
         json: true,
         numbers: Numbers::Integers,
@@ -44,13 +49,16 @@ fn state_text(alloc: Global, script: &[u8]) -> Result<Handed, OutOfMemory>
     hand(text, answer)
 }
 
-/// Draws a script, and returns the picture as SVG, with how the call ends.
-fn draw_text(alloc: Global, script: &[u8]) -> Result<Handed, OutOfMemory>
+/// Draws what is asked for of a script, and returns the picture, with how the call ends.
+pub(crate) fn draw_text(
+    alloc: Global,
+    script: &[u8],
+    asked: &Asked<'_>,
+) -> Result<Handed, OutOfMemory>
     ensures { IfOk result (λ h. IsTold h.ending) }
 {
     let mut text = Vec::new(alloc);
-    let asked = Asked::whole(Format::Svg);
-    let answer = match draw_script(alloc, &mut Source::new(script), &mut text, &asked) {
+    let answer = match draw_script(alloc, &mut Source::new(script), &mut text, asked) {
         Ok(()) => Ok(true),
         Err(fault) => Err(fault),
     };
@@ -58,8 +66,7 @@ fn draw_text(alloc: Global, script: &[u8]) -> Result<Handed, OutOfMemory>
 }
 
 /// Explains each step of a script that did nothing, and what is stuck at its end, and writes as
-/// much of that as there is room for. Returns 0 where nothing is stuck and 1 where something is;
-/// 2, 5 and 6 as `mcs_check`.
+/// much as fits. Returns 0 if nothing is stuck and 1 if something is; 2, 5 and 6 as `mcs_check`.
 #[unsafe(no_mangle)]
 pub extern "C" fn mcs_why(alloc: Global, script: &[u8], out: &mut [u8], end: &mut McsEnd) -> u32
     ensures { IsRefused result out.old out.new end.old end.new
@@ -78,7 +85,7 @@ pub extern "C" fn mcs_state(alloc: Global, script: &[u8], out: &mut [u8], end: &
     ensures { IsRefused result out.old out.new end.old end.new
         ⊎ Tells result out.old out.new end.new }
 {
-    match state_text(alloc, script) {
+    match state_text(alloc, script, None) {
         Ok(handed) => handed.hand_over(out, end),
         Err(OutOfMemory) => NO_MEMORY,
     }
@@ -91,7 +98,7 @@ pub extern "C" fn mcs_draw(alloc: Global, script: &[u8], out: &mut [u8], end: &m
     ensures { IsRefused result out.old out.new end.old end.new
         ⊎ Tells result out.old out.new end.new }
 {
-    match draw_text(alloc, script) {
+    match draw_text(alloc, script, &Asked::whole(Format::Svg)) {
         Ok(handed) => handed.hand_over(out, end),
         Err(OutOfMemory) => NO_MEMORY,
     }

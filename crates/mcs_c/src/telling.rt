@@ -1,4 +1,4 @@
-//! A run that takes a piece of a script, and the text that this adds to its trace.
+//! A run that takes a piece of a script, and what that adds to the trace.
 ghost use Rattle.std.specs.Prelude.{◌≡◌, IfOk};
 ghost use Rattle.mcs_c.specs.Replays.{Tells, is_refused};
 
@@ -6,7 +6,7 @@ use mcs_sim::{SimFault, Sink, TracedRun};
 use mcs_types::OutOfMemory;
 use std::alloc::Global;
 
-/// A text, and how the run ended that told it. No such run ended for want of memory.
+/// A text, and how the run that wrote it ended. A run that an allocation ended has no text.
 #[derive(Drop)]
 pub(crate) struct Told {
     pub(crate) text: Vec<u8>,
@@ -31,8 +31,8 @@ fn is_refused(ended: Result<(), SimFault>) -> bool
     }
 }
 
-/// Takes a piece of a script, or its end where the piece is empty, and returns a text to which what
-/// that adds to the trace is added. A text in memory refuses a write only where memory is refused.
+/// Feeds a piece of a script (its end, if the piece is empty) to a run, and appends what that adds
+/// to the trace. Memory as a writer fails only if an allocation does.
 #[tactic(auto, using(crate::proofs::Replayed::tells))]
 pub(crate) fn tell(
     alloc: Global,

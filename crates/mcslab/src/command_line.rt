@@ -18,7 +18,7 @@ const VERSION: &str = "0.1.0";
 /// The option for numbers as texts.
 const STRINGS: &str = "json-strings";
 
-/// What the program does with a script.
+/// A command of the program, with its options.
 #[derive(Clone, Copy)]
 pub enum Command<'a> {
     /// Compares what follows each step with what it did.
@@ -27,15 +27,15 @@ pub enum Command<'a> {
     Why,
     /// Shows the state of each thread.
     State(Wanted),
-    /// Writes the lines of the book as JSON, with such numbers.
+    /// Writes the lines of the book as JSON, with this form of numbers.
     Json(Numbers),
     /// Draws the run.
     Draw(Drawn<'a>),
-    /// Goes through all orders of the users.
+    /// Explores all orders of the users.
     Explore(Sought<'a>),
-    /// Takes orders of the users by chance.
+    /// Draws orders of the users at random.
     Walk(Chance),
-    /// Makes a script of a plan.
+    /// Compiles a plan to a script.
     Compile(Made),
     /// Puts names into a trace.
     Names,
@@ -54,7 +54,7 @@ pub enum Command<'a> {
 pub struct Request<'a> {
     pub command: Command<'a>,
     pub file: Option<&'a str>,
-    /// Whether that is a plan, by its name or by an option.
+    /// Whether the file is a plan, by its name or by an option.
     pub is_plan: bool,
 }
 
@@ -67,7 +67,7 @@ fn file_of<'a>(found: &ArgMatches<'a>) -> Option<&'a str> {
 }
 
 impl<'a> Request<'a> {
-    /// Returns the request of a command that has its own kind of file.
+    /// Returns the request of a command whose file is always a plan, or always a script.
     fn plain(command: Command<'a>, found: &ArgMatches<'a>) -> Request<'a> {
         Request {
             command,
@@ -87,7 +87,7 @@ impl<'a> Request<'a> {
     }
 }
 
-/// What holds for all commands, an example of each, and the exit statuses of `Outcome`.
+/// Notes on all commands, an example of each, and the exit statuses of `Outcome`.
 pub const HELP: &str = "\
 A command that reads steps or users reads a script or a plan: a file NAME.plan, or any with --plan.
 Line numbers are those of the given file. A fault is reported as FILE:LINE: .., and `-` is the
@@ -120,7 +120,7 @@ Exit status:
    8  a read failed
   64  the command line: an option, a file that cannot be opened, or a line that is not there";
 
-/// Where it is said what may be expected of a step.
+/// Where the help says what may be expected of a step.
 const EXPECTED: &str = "\
 Lines after a step say what is wanted of it: `mcslab forms questions`. The exit status is 1 if
 something that is wanted does not hold; `mcslab --help` has the others.";
@@ -196,14 +196,13 @@ fn numbers_of(found: &ArgMatches<'_>) -> Numbers {
     }
 }
 
-/// A command with one argument more. What is made before a step that can fail is dropped where it
-/// fails, so a chain of such steps in one function is long to prove, and a step in a function of
-/// its own is not.
+/// Returns a command with one argument more. Each step that can fail drops what was made before, so
+/// a chain of steps in one function takes long to prove, and single steps do not.
 pub fn with<'a>(words: Result<Words<'a>, Error>, arg: Arg<'a>) -> Result<Words<'a>, Error> {
     Ok(words?.arg(arg)?)
 }
 
-/// A command with one argument more, which is wanted only with another.
+/// Returns a command with one more argument, which needs another one.
 pub fn with_other<'a>(
     words: Result<Words<'a>, Error>,
     arg: Arg<'a>,
@@ -212,7 +211,7 @@ pub fn with_other<'a>(
     with(words, arg.requires_arg(other)?)
 }
 
-/// A command with one more below it.
+/// Returns a command with one more subcommand.
 fn add<'a>(words: Words<'a>, below: Words<'a>) -> Result<Words<'a>, Error> {
     Ok(words.subcommand(below)?)
 }
@@ -266,7 +265,7 @@ fn book<'a>(alloc: Global) -> Result<Words<'a>, Error> {
     with(words, file(alloc))
 }
 
-/// The program, with no command.
+/// Returns the program without its commands.
 fn program<'a>(alloc: Global) -> Words<'a> {
     Words::new(alloc, "mcslab")
         .version(VERSION)
@@ -318,7 +317,7 @@ fn without_file(command: Command<'_>) -> Request<'_> {
     }
 }
 
-/// What is asked of the program itself, if something is.
+/// Returns what is asked of the program itself, if anything.
 fn requested_of_program<'a>(matches: &ArgMatches<'a>) -> Option<Request<'a>> {
     if let Some(found) = matches.subcommand_matches("init") {
         return Some(without_file(Command::Init(starting::asked(found))));
@@ -333,7 +332,7 @@ fn requested_of_program<'a>(matches: &ArgMatches<'a>) -> Option<Request<'a>> {
     Some(without_file(Command::Manual))
 }
 
-/// What is asked of a plan or of the names of a script, if something is.
+/// Returns what is asked of a plan or of the names of a script, if anything.
 fn requested_of_names<'a>(matches: &ArgMatches<'a>) -> Option<Request<'a>> {
     if let Some(found) = matches.subcommand_matches("compile") {
         return Some(Request::plain(Command::Compile(compiling::asked(found)), found));
@@ -342,7 +341,7 @@ fn requested_of_names<'a>(matches: &ArgMatches<'a>) -> Option<Request<'a>> {
     Some(Request::plain(Command::Names, found))
 }
 
-/// What is asked of the orders of users, if something is.
+/// Returns what is asked of the orders of users, if anything.
 fn requested_of_users<'a>(matches: &ArgMatches<'a>) -> Option<Request<'a>> {
     if let Some(found) = matches.subcommand_matches("explore") {
         return Some(Request::of_either(Command::Explore(exploring::asked(found)), found));
@@ -351,7 +350,7 @@ fn requested_of_users<'a>(matches: &ArgMatches<'a>) -> Option<Request<'a>> {
     Some(Request::of_either(Command::Walk(walking::asked(found)), found))
 }
 
-/// What is asked of steps, if something is.
+/// Returns what is asked of steps, if anything.
 fn requested_of_steps<'a>(matches: &ArgMatches<'a>) -> Option<Request<'a>> {
     if let Some(found) = matches.subcommand_matches("why") {
         return Some(Request::of_either(Command::Why, found));
@@ -376,7 +375,7 @@ fn requested_of_steps<'a>(matches: &ArgMatches<'a>) -> Option<Request<'a>> {
     Some(Request::of_either(Command::Check, found))
 }
 
-/// What the words of the command line ask for; the first is the program's name.
+/// Returns what the words of the command line ask for; the first is the program's name.
 pub fn requested<'a>(alloc: Global, words: &'a [&'a str]) -> Result<Request<'a>, Error> {
     let matches = commands(alloc)?.try_get_matches_from(words)?;
     if let Some(request) = requested_of_program(&matches) {

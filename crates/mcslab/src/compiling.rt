@@ -10,7 +10,7 @@ use std::alloc::Global;
 use std::io::{self, Write};
 use std::process::ExitCode;
 
-/// What is made of a plan.
+/// What `mcslab compile` writes of a plan.
 #[derive(Clone, Copy)]
 pub enum Made {
     Script,
@@ -36,7 +36,7 @@ pub fn command<'a>(alloc: Global, file: Arg<'a>) -> Result<Words<'a>, Error> {
     with(with(Ok(words(alloc)), map(alloc)), file)
 }
 
-/// What is asked.
+/// Returns what is asked.
 pub fn asked(found: &ArgMatches<'_>) -> Made {
     if found.get_flag("map") {
         Made::Map

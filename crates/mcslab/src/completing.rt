@@ -26,12 +26,12 @@ fn shell_arg<'a>(alloc: Global) -> Arg<'a> {
         .value_parser(SHELLS)
 }
 
-/// Returns the command without its argument.
+/// Returns the command `completions` without its argument.
 fn words<'a>(alloc: Global) -> Words<'a> {
     Words::new(alloc, "completions").about("Writes completions of the command line for a shell")
 }
 
-/// Returns the command.
+/// Returns the command `completions` for the parser of the command line.
 pub fn command<'a>(alloc: Global) -> Result<Words<'a>, Error> {
     with(Ok(words(alloc)), shell_arg(alloc))
 }
@@ -45,7 +45,7 @@ pub fn asked(found: &ArgMatches<'_>) -> Shell {
     }
 }
 
-/// Returns the values that an argument may have, where these are some words.
+/// Returns the values that an argument may have, if these are some words.
 fn values_of<'a>(arg: &Arg<'a>) -> Option<&'a [&'a str]> {
     match arg.get_value_parser() {
         ValueParser::Names(names) => Some(names),
@@ -53,7 +53,7 @@ fn values_of<'a>(arg: &Arg<'a>) -> Option<&'a [&'a str]> {
     }
 }
 
-/// Returns what stands for a byte of a text in single quotes, and in brackets in zsh.
+/// Returns the byte to write for a byte of a text in single quotes, and in brackets in zsh.
 fn quoted(byte: u8) -> u8 {
     match byte {
         b'\'' => b'`',
@@ -63,7 +63,7 @@ fn quoted(byte: u8) -> u8 {
     }
 }
 
-/// Writes what is said of a command or of an option, as it stands in quotes.
+/// Writes the description of a command or of an option, quoted.
 fn put_about<W: Write>(to: &mut W, about: Option<&str>) -> io::Result<()> {
     for byte in about.unwrap_or("").as_bytes() {
         to.write_all(&[quoted(*byte)])?;
@@ -71,7 +71,7 @@ fn put_about<W: Write>(to: &mut W, about: Option<&str>) -> io::Result<()> {
     Ok(())
 }
 
-/// Writes words, and a blank behind each.
+/// Writes words, with a blank after each.
 fn put_words<W: Write>(to: &mut W, words: &[&str]) -> io::Result<()> {
     for word in words {
         write!(to, "{word} ")?;
@@ -117,14 +117,14 @@ _mcslab() {
     if [ \"$COMP_CWORD\" -eq 1 ]; then
         words='";
 
-/// What stands between the names of the commands and their options.
+/// The completions for bash between the names of the commands and their options.
 const BASH_MIDDLE: &str = "\
 --help --version'
     else
         case ${COMP_WORDS[1]} in
 ";
 
-/// The end of the completions for bash: where nothing fits, files do.
+/// The end of the completions for bash: if nothing matches, it completes files.
 const BASH_TAIL: &str = "        esac
     fi
     COMPREPLY=($(compgen -W \"$words\" -- \"$word\"))
@@ -135,7 +135,7 @@ const BASH_TAIL: &str = "        esac
 complete -o filenames -F _mcslab mcslab
 ";
 
-/// Writes the values that an argument may have for zsh, or that it is a file or a number.
+/// Writes the values of an argument for zsh: its possible words, a file or a number.
 fn put_zsh_values<W: Write>(to: &mut W, arg: &Arg<'_>) -> io::Result<()> {
     if let Some(values) = values_of(arg) {
         to.write_all(b":value:(")?;
@@ -192,7 +192,7 @@ _mcslab() {
     commands=(
 ";
 
-/// What stands between the commands and their options.
+/// The completions for zsh between the commands and their options.
 const ZSH_MIDDLE: &str = "    )
     if (( CURRENT == 2 )); then
         _describe command commands

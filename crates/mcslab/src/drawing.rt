@@ -1,16 +1,16 @@
 //! The picture of a script, as the command line asks for it.
 use crate::command_line::{line, with};
-use crate::numbering::number_in;
 use clap::{Arg, ArgMatches, Command as Words, Error};
 use mcs_lab_check::{Judge, LabFault, Last, Names, Outcome, TakesLines, Told, take_lines};
 use mcs_lab_render::{Asked, Format, NoThreads, Window, draw_script, threads_named};
 use mcs_plan_source::Shown;
+use mcs_plan_words::number_in;
 use mcs_sim::Source;
 use std::alloc::Global;
 use std::io::{Read, Write};
 
-/// What is drawn, and as what: the steps from a line of the file to another, or from its first or
-/// to its last, with the lanes of these threads, names or ids with commas between.
+/// What to draw, and in which format: the steps between two lines of the file, by default from the
+/// first to the last, with the lanes of these threads, a list of names or ids.
 #[derive(Clone, Copy)]
 pub struct Drawn<'a> {
     pub format: Format,
@@ -19,9 +19,8 @@ pub struct Drawn<'a> {
     pub threads: Option<&'a str>,
 }
 
-/// What the file says of a script that came of it: for each line of the script the line of the file
-/// of which it came, and for each step its text in the file. Both are empty where the script is the
-/// file.
+/// How a script relates to its file: for each line of the script the line of the file from which it
+/// came, and for each step its text in the file. Both are empty if the script is the file.
 #[derive(Clone, Copy)]
 pub struct Said<'a> {
     pub numbers: &'a [u64],
@@ -29,7 +28,7 @@ pub struct Said<'a> {
 }
 
 impl Said<'_> {
-    /// Says nothing beyond the script.
+    /// Returns the relation of a script that is the file.
     pub fn nothing<'a>() -> Said<'a> {
         Said {
             numbers: &[],
@@ -94,7 +93,7 @@ pub fn command<'a>(alloc: Global, file: Arg<'a>) -> Result<Words<'a>, Error> {
     with(words, file)
 }
 
-/// What is asked; None for a format that is not there.
+/// Returns what is asked for; None for an unknown format.
 pub fn asked<'a>(found: &ArgMatches<'a>) -> Option<Drawn<'a>> {
     let format = match found.get_str("format") {
         None | Some("svg") => Format::Svg,
@@ -110,7 +109,7 @@ pub fn asked<'a>(found: &ArgMatches<'a>) -> Option<Drawn<'a>> {
     })
 }
 
-/// A script that is read whole: its text, its names, and the line of each step that is in its book.
+/// A script that was read whole: its text, its names, and the line of each step in its book.
 #[derive(Drop)]
 struct Steps {
     judge: Judge,
@@ -138,8 +137,8 @@ impl TakesLines for Steps {
 }
 
 impl Steps {
-    /// Returns what a script says. Its faults are those of its lines, of a read, of a full book and
-    /// of memory that is refused.
+    /// Reads a script. Its faults are those of its lines, of a read, of a full book and of a failed
+    /// allocation.
     fn read<R: Read>(alloc: Global, from: &mut Source<R>) -> Result<Steps, LabFault> {
         let mut steps = Steps {
             judge: Judge::new(alloc)?,
@@ -152,7 +151,7 @@ impl Steps {
         Ok(steps)
     }
 
-    /// Returns the fault of a line beyond the end, where it is.
+    /// Returns the fault of a line beyond the end, if it is.
     fn missing(&self, line: Option<u64>) -> Option<LabFault> {
         let line = line?;
         let count = self.judge.line();
@@ -162,7 +161,8 @@ impl Steps {
         Some(LabFault::NoLine { line, count })
     }
 
-    /// Returns how many steps of the book stand before a line, of which these are the numbers.
+    /// Returns how many steps of the book are before a line; `numbers` are the numbers of the
+    /// script's lines.
     fn count_before(&self, numbers: &[u64], line: u64) -> usize {
         self.lines
             .iter()
@@ -170,8 +170,8 @@ impl Steps {
             .count()
     }
 
-    /// Returns the lines of the book whose steps stand in the lines that are asked for; None where
-    /// none does.
+    /// Returns the lines of the book whose steps are in the lines asked for; None if there are
+    /// none.
     fn window(&self, numbers: &[u64], drawn: Drawn<'_>) -> Option<Window> {
         if drawn.from.is_none() && drawn.to.is_none() {
             return Some(ALL);
@@ -198,7 +198,7 @@ const ALL: Window = Window {
     last: usize::MAX,
 };
 
-/// Reports that a list of threads is none, and returns the exit status.
+/// Reports a wrong list of threads, and returns the exit status.
 fn tell_no_threads(rt: &HostRuntime, fault: NoThreads<'_>) -> Result<u8, LabFault> {
     match fault {
         NoThreads::OutOfMemory => Err(LabFault::OutOfMemory),
@@ -241,8 +241,8 @@ fn draw_window<W: Write>(
     Ok(Outcome::Done.status())
 }
 
-/// Draws a part of a script, and returns the exit status. Fault NoLine where a line that is named
-/// is beyond the end of the script, unless its numbers are those of another text.
+/// Draws a part of a script, and returns the exit status. Fault `NoLine` if a named line is beyond
+/// the end of the script, unless its numbers are those of another text.
 fn draw_part<R: Read, W: Write>(
     rt: &HostRuntime,
     from: &mut Source<R>,
@@ -265,8 +265,8 @@ fn draw_part<R: Read, W: Write>(
     }
 }
 
-/// Draws a script of which its file says this, and returns the exit status. Its faults are those of
-/// `draw_script`, and NoLine where a line that is named is beyond the end.
+/// Draws a script with this relation to its file, and returns the exit status. Its faults are those
+/// of `draw_script`, and `NoLine` if a named line is beyond the end.
 pub fn draw<R: Read, W: Write>(
     rt: &HostRuntime,
     from: &mut Source<R>,

@@ -8,20 +8,26 @@ use crate::command_line::{strings, with, with_other};
 use crate::folder::Folder;
 use clap::{Arg, ArgAction, ArgMatches, Command as Words, Error, value_parser};
 use mcs_explore_questions::ExploreFault;
-use mcs_explore_report::{Explored, Output, Progress, Wanted, explore_and_tell};
+use mcs_explore_report::{Explored, Output, Progress, Stop, Wanted, explore_and_tell};
 use mcs_lab_check::Outcome;
 use mcs_sim::Source;
 use std::alloc::{AllocError, Global};
 use std::io::{self, IsTerminal, Read, Write};
 use std::time::Instant;
 
-/// How many states are found at most, where nothing else is said.
+/// How many states are found by default at most.
 const STATES: u64 = 1_000_000;
 
-/// At how many states the clock is read once, since reading it takes time.
+/// The clock is read, and memory asked for, once in this many states, since both take time.
 const LOOKS: usize = 16;
 
-/// How far a search goes, the form of its report, and where its scripts are kept.
+/// Bytes that a search leaves for its report, and for tables that grow before it asks again: this
+/// many, and `RESERVE_STATE` for each state that was expanded.
+const RESERVE: usize = 64 << 20;
+
+const RESERVE_STATE: usize = 512;
+
+/// How far to search, the form of the report, and where to save scripts.
 #[derive(Clone, Copy)]
 pub struct Sought<'a> {
     pub wanted: Wanted,
@@ -29,7 +35,7 @@ pub struct Sought<'a> {
     pub scripts: Option<&'a str>,
     /// Whether a script may overwrite a file.
     pub is_forced: bool,
-    /// After how many seconds it stops, where that is asked for.
+    /// After how many seconds the search stops, if that is asked for.
     pub seconds: Option<u64>,
 }
 
@@ -124,7 +130,8 @@ fn json<'a>(alloc: Global) -> Arg<'a> {
         .action(ArgAction::SetTrue)
 }
 
-/// Returns the option for numbers as texts: no number of a report has more than 53 bits.
+/// Returns the option for numbers as texts; it changes nothing, since no number of a report has
+/// more than 53 bits.
 fn texts<'a>(alloc: Global) -> Arg<'a> {
     strings(alloc).help("Writes numbers of 64 bits as texts; this report has none")
 }
@@ -137,14 +144,14 @@ fn exact<'a>(alloc: Global) -> Arg<'a> {
         .action(ArgAction::SetTrue)
 }
 
-/// Returns the command without options.
+/// Returns the command `explore` without options.
 fn words<'a>(alloc: Global) -> Words<'a> {
     Words::new(alloc, "explore")
         .about("Goes through all orders of the users of a script")
         .after_help(READS)
 }
 
-/// Returns the command.
+/// Returns the command `explore` for the parser of the command line.
 pub fn command<'a>(alloc: Global, file: Arg<'a>) -> Result<Words<'a>, Error> {
     let words = with(Ok(words(alloc)), states(alloc));
     let words = with(words, depth(alloc));
@@ -190,16 +197,26 @@ fn status_of(explored: Explored) -> u8
     }
 }
 
-/// Reports once a second how far a search is, and stops it after a time.
+/// Reports the progress of a search once a second, and stops it after a time, or when memory
+/// suffices for the report alone.
 #[derive(Drop)]
 struct Meter<'a> {
     rt: &'a HostRuntime,
-    /// None where there is no clock, or nobody needs it.
+    /// The start of the search; None if there is no clock, or it is not needed.
     start: Option<Instant>,
-    /// Whether somebody looks at the standard error.
+    /// Whether the standard error is a terminal.
     is_seen: bool,
     seconds: u64,
     most: Option<u64>,
+    /// Whether the reserve of memory was refused.
+    is_short: bool,
+}
+
+/// Returns whether there is memory for a report on so many states.
+fn has_reserve(alloc: Global, states: usize) -> bool {
+    let bytes = states.saturating_mul(RESERVE_STATE).saturating_add(RESERVE);
+    let reserve: Result<Vec<u8>, AllocError> = Vec::with_capacity(alloc, bytes);
+    reserve.is_ok()
 }
 
 /// Returns a number with a comma before each three digits.
@@ -218,8 +235,8 @@ fn grouped(alloc: Global, number: usize) -> Result<String, AllocError> {
 }
 
 impl<'a> Meter<'a> {
-    /// Returns one that reports from now on, if the standard error is a terminal, and stops a
-    /// search after so many seconds, or after one state where there is no clock.
+    /// Returns a meter that reports from now on, if the standard error is a terminal, and stops a
+    /// search after `most` seconds, or after one state if there is no clock.
     fn new(rt: &'a HostRuntime, most: Option<u64>) -> Meter<'a> {
         let is_seen = rt.stderr().is_terminal();
         let start = if is_seen || most.is_some() {
@@ -233,10 +250,11 @@ impl<'a> Meter<'a> {
             is_seen,
             seconds: 0,
             most,
+            is_short: false,
         }
     }
 
-    /// Returns the seconds since the start, where one more has passed since the last report.
+    /// Returns the seconds since the start, if a second has passed since the last report.
     fn second(&mut self) -> Option<u64> {
         let passed = self.start?.elapsed(self.rt).ok()?.as_secs();
         if passed <= self.seconds {
@@ -246,7 +264,7 @@ impl<'a> Meter<'a> {
         Some(passed)
     }
 
-    /// Reports how far the search is. A failed write ends nothing.
+    /// Reports the progress of the search. A failed write is ignored.
     fn report(&self, before: usize, depth: usize, seconds: u64) {
         if let Ok(count) = grouped(self.rt.alloc(), before) {
             let _ = eprintln!(self.rt; "{count} states expanded, depth {depth}, {seconds} s");
@@ -259,6 +277,7 @@ impl Progress for Meter<'_> {
         if before % LOOKS != 0 {
             return;
         }
+        self.is_short = !has_reserve(self.rt.alloc(), before);
         if let Some(seconds) = self.second()
             && self.is_seen
         {
@@ -266,17 +285,22 @@ impl Progress for Meter<'_> {
         }
     }
 
-    fn goes_on(&self) -> bool {
-        match (self.most, &self.start) {
-            (None, _) => true,
-            (Some(_), None) => false,
-            (Some(most), Some(_)) => self.seconds < most,
+    fn stop(&self) -> Option<Stop> {
+        if self.is_short {
+            return Some(Stop::Memory);
         }
+        let is_over = match (self.most, &self.start) {
+            (None, _) => false,
+            (Some(_), None) => true,
+            (Some(most), Some(_)) => most <= self.seconds,
+        };
+        if is_over { Some(Stop::Clock) } else { None }
     }
 }
 
-/// Writes each piece at once: what a search found is written before its scripts are kept, whatever
-/// ends the program then. What can't be written stays with the writer, whose last flush tells it.
+/// A writer that flushes each piece: what a search found is written before its scripts are saved,
+/// whatever ends the program then. What cannot be written stays in its buffer, and the last flush
+/// reports it.
 #[derive(Drop)]
 struct Prompt<W> {
     to: W,
@@ -294,15 +318,14 @@ impl<W: Write> Write for Prompt<W> {
     }
 }
 
-/// Goes through all orders of a script, and returns the exit status.
+/// Explores all orders of a script, and returns the exit status.
 pub fn explore<R: Read, W: Write + Drop>(
     rt: &HostRuntime,
     from: &mut Source<R>,
     to: W,
     sought: Sought<'_>,
 ) -> Result<u8, ExploreFault>
-    // by proved keys, status 0: a script was read, and all that it asks is so in each run of its
-    // users
+    // proved keys, status 0: a script was read, and all its questions hold in each run of its users
     ensures holds { IfOk result (λ status. status ≡ 0 → HasReadHolding sought.entry.wanted.is_exact
         (R.remaining from.old.reader) (R.remaining from.new.reader)) }
     // and status 1: some run shows why it fails

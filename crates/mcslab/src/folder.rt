@@ -1,4 +1,4 @@
-//! The folder in which scripts of a search are kept.
+//! The folder for the scripts of a search.
 use crate::path::Path;
 use mcs_explore_report::{MARK, Saves, UserScript, is_script_name};
 use mcs_lab_check::LabFault;
@@ -6,7 +6,7 @@ use std::alloc::Global;
 use std::fs::{self, DirEntry, File};
 use std::io::{self, ErrorKind, Read, Write};
 
-/// A folder in which scripts are kept; None where none are wanted.
+/// A folder in which scripts are saved; None if none are wanted.
 #[derive(Drop)]
 pub struct Folder<'a> {
     rt: &'a HostRuntime,
@@ -15,8 +15,8 @@ pub struct Folder<'a> {
 }
 
 impl<'a> Folder<'a> {
-    /// Returns the folder of this path, if there is one. Scripts overwrite files only where they
-    /// are forced.
+    /// Returns the folder with this path, if one is given. Scripts overwrite other files only if
+    /// `is_forced`.
     pub fn new(rt: &'a HostRuntime, path: Option<&'a str>, is_forced: bool) -> Folder<'a> {
         Folder {
             rt,
@@ -25,7 +25,7 @@ impl<'a> Folder<'a> {
         }
     }
 
-    /// Writes a file. AlreadyExists where there is one, and none may be overwritten.
+    /// Writes a file. `AlreadyExists` if there is one that must not be overwritten.
     fn write(&self, path: &str, text: &[u8]) -> io::Result<()> {
         if self.is_forced {
             return fs::write(self.rt, path, text);
@@ -66,7 +66,7 @@ impl Saves for Folder<'_> {
     }
 }
 
-/// Returns whether a file is a script of a search, by its first line.
+/// Returns whether a file is a script saved by a search, by its first line.
 fn is_ours(rt: &HostRuntime, path: &str) -> io::Result<bool> {
     let mut file = fs::open(rt, path)?;
     let mut head = [0; MARK.len()];
@@ -89,8 +89,8 @@ fn remove_script(rt: &HostRuntime, entry: &DirEntry<HostRuntime>) -> io::Result<
     Ok(())
 }
 
-/// Makes the folder of scripts where it is not there, tests that files can be written into it, and
-/// removes the scripts of an older search. The error is that of the folder or of a file.
+/// Makes the folder of scripts if it does not exist, tests that it is writable, and removes the
+/// scripts of an older search. The error is that of the folder or of a file.
 pub fn make_folder(rt: &HostRuntime, path: &str) -> Result<(), io::Error> {
     if path.is_empty() {
         return Err(io::Error::from(ErrorKind::NotFound));

@@ -1,10 +1,11 @@
-//! What may help where a line of a script fits no form.
+//! Hints for a line of a script that fits no form.
 use mcs_lab_forms::{Fields, form_of, meant_by};
 use mcs_text::Words;
 use std::alloc::{AllocError, Global};
 use std::str;
 
-/// How many words at the beginning of a line may be its key: `send`, `0 t1 send`, `user t1 send`.
+/// How many words at the beginning of a line may precede or be its key: `send`, `0 t1 send`, `user
+/// t1 send`.
 const KEYS: usize = 3;
 
 /// Adds a word that is text.
@@ -15,7 +16,7 @@ fn add_word(to: &mut String, word: &[u8]) -> Result<(), AllocError> {
     }
 }
 
-/// Returns a form, by its key and the names of its words.
+/// Returns a form as text: its key and the names of its words.
 fn form_text(alloc: Global, key: &[u8], mut fields: Fields<'static>) -> Result<String, AllocError> {
     let mut text = String::from_str(alloc, "the form is: ")?;
     add_word(&mut text, key)?;
@@ -33,7 +34,7 @@ fn form_text(alloc: Global, key: &[u8], mut fields: Fields<'static>) -> Result<S
     Ok(text)
 }
 
-/// Returns what was meant by a word.
+/// Returns the message about a misspelled key.
 fn meant_text(alloc: Global, key: &[u8]) -> Result<String, AllocError> {
     let mut text = String::from_str(alloc, "did you mean ")?;
     add_word(&mut text, key)?;
@@ -41,8 +42,8 @@ fn meant_text(alloc: Global, key: &[u8]) -> Result<String, AllocError> {
     Ok(text)
 }
 
-/// Returns what may help where a line fits no form: the key that was meant, or the form of the key
-/// that the line has. None where nothing is known, or memory is refused.
+/// Returns a hint for a line that fits no form: the key that was meant, or the form of its key.
+/// None if nothing is known, or an allocation fails.
 pub fn hint_of(alloc: Global, line: &[u8]) -> Option<String> {
     let mut words = Words::new(line);
     for place in 0..KEYS {

@@ -6,13 +6,13 @@ use std::alloc::Global;
 use std::fs::{self, File};
 use std::io::{self, ErrorKind, Read};
 
-/// The system's number of the error that a file is a folder.
+/// The system's error number for a file that is a folder.
 const IS_A_FOLDER: i32 = 21;
 
-/// How many bytes are kept of what was read, for the message on a line that is refused.
+/// How many bytes of the input are kept, for the message about a refused line.
 const KEPT: usize = 65_536;
 
-/// A reader, and the first bytes of what it gave.
+/// A reader that keeps the first bytes of its input.
 #[derive(Drop)]
 pub struct Kept<R> {
     from: R,
@@ -20,7 +20,7 @@ pub struct Kept<R> {
 }
 
 impl<R> Kept<R> {
-    /// Returns a reader of which nothing is read.
+    /// Returns a reader before its first read.
     pub fn new(alloc: Global, from: R) -> Kept<R> {
         Kept {
             from,
@@ -60,13 +60,13 @@ pub fn open(rt: &HostRuntime, path: &str) -> io::Result<File> {
     Ok(file)
 }
 
-/// How many bytes a line of a plan may have for more to be read: its limit, and a character.
+/// After how many bytes of a line of a plan reading stops: the line's limit, and a character.
 const LINE: usize = 4_004;
 
 /// How many lines a plan may have.
 const LINES: usize = 900_000;
 
-/// How much of a plan was read: its lines, and the bytes of the one that is not ended.
+/// How much of a plan was read: its lines, and the bytes of the last, unended one.
 #[derive(Clone, Copy)]
 struct Measure {
     lines: usize,
@@ -74,7 +74,7 @@ struct Measure {
 }
 
 impl Measure {
-    /// Counts bytes, and returns whether a plan that goes on behind them may still be one.
+    /// Counts bytes, and returns whether the plan may go on after them.
     fn take(&mut self, bytes: &[u8]) -> bool {
         for byte in bytes {
             if *byte == b'\n' {
@@ -91,7 +91,7 @@ impl Measure {
     }
 }
 
-/// Returns how many bytes at the end of a text may be a part of a character: at most four.
+/// Returns how many bytes at the end of a text may be part of a character: at most four.
 fn count_cut(bytes: &[u8]) -> usize {
     let mut count: usize = 0;
     for byte in bytes.iter().rev() {
@@ -106,7 +106,7 @@ fn count_cut(bytes: &[u8]) -> usize {
     count
 }
 
-/// Reads a plan, but no further than to a line that is too long, or to one too many.
+/// Reads a plan, up to a line that is too long, or one line too many.
 fn read_plan<R: Read + Drop>(alloc: Global, from: R) -> Result<Vec<u8>, LabFault> {
     let mut source = Source::new(from);
     let mut bytes = Vec::new(alloc);
@@ -140,8 +140,7 @@ pub fn tell_unopened(rt: &HostRuntime, path: &str, error: &io::Error) -> u8 {
     Outcome::Call.status()
 }
 
-/// Returns the bytes of a plan that was read; or the exit status, where it could not be, which is
-/// reported.
+/// Returns the bytes of a plan; if it could not be read, reports that and returns the exit status.
 fn plan_read(rt: &HostRuntime, read: Result<Vec<u8>, LabFault>) -> Result<Vec<u8>, u8> {
     match read {
         Ok(bytes) => Ok(bytes),
@@ -152,8 +151,8 @@ fn plan_read(rt: &HostRuntime, read: Result<Vec<u8>, LabFault>) -> Result<Vec<u8
     }
 }
 
-/// Returns the bytes of a plan, a file or the standard input, up to where it is refused for its
-/// size; or the exit status, where they can't be read, which is reported.
+/// Returns the bytes of a plan, from a file or the standard input, up to where it is refused for
+/// its size; if they cannot be read, reports that and returns the exit status.
 pub fn plan_bytes(rt: &HostRuntime, file: Option<&str>) -> Result<Vec<u8>, u8> {
     match file {
         Some(path) => match open(rt, path) {

@@ -1,33 +1,28 @@
-//! The program: `mcslab check` compares what a script or a plan says of its steps with what they
-//! do, `mcslab why` says why a step did nothing, `mcslab explore` goes through all orders of users.
+//! The program: `mcslab check` checks what a script or a plan expects of its steps, `mcslab why`
+//! explains steps without effect, `mcslab explore` searches all orders of users.
 //!
 //! ```text
 //! words ── command_line ──> Request: a command, and its file
 //! file ── input ──> a script, which is read as it comes, or a plan, which is read whole
-//! plan ── planning ──> the command with the script that it becomes; retelling: the report by the
-//!     plan's lines (numbering) and names (speaking)
-//! faults ── telling ──> FILE:LINE: ..; of a plan with what may help: advice, entry_forms
+//! plan ── planning ──> the command with the script that it becomes, and the report by the plan's
+//!     lines and names (mcs_plan_words)
+//! faults ── telling ──> FILE:LINE: ..
 //! ```
 #![tactic(auto)]
 
-mod advice;
 mod command_line;
 mod compiling;
 mod completing;
 mod drawing;
-mod entry_forms;
 mod exploring;
 mod folder;
 mod hints;
 mod input;
 mod manual;
-mod numbering;
 mod path;
 mod planning;
 mod renaming;
-mod retelling;
 mod showing;
-mod speaking;
 mod starting;
 mod telling;
 mod walking;
@@ -56,12 +51,12 @@ use std::process::ExitCode;
 use telling::{Place, line_of, stranger_of, tell_fault, tell_stranger};
 use walking::walk;
 
-/// Returns the exit status of the program that ends so.
+/// Returns the exit code for an outcome.
 fn ended(outcome: Outcome) -> ExitCode {
     ExitCode::from(outcome.status())
 }
 
-/// Prints what `clap` returns in place of a command.
+/// Prints what `clap` returns in place of a command: help, version or an error.
 fn tell_answer(rt: &HostRuntime, answer: &Error) -> ExitCode {
     let _ = answer.print(rt);
     match answer.kind() {
@@ -71,7 +66,7 @@ fn tell_answer(rt: &HostRuntime, answer: &Error) -> ExitCode {
     }
 }
 
-/// Returns the exit status where what is wanted holds, or does not.
+/// Returns the exit status for a check that holds or not.
 fn status_if(holds: bool) -> u8 {
     if holds {
         Outcome::Done.status()
@@ -80,7 +75,7 @@ fn status_if(holds: bool) -> u8 {
     }
 }
 
-/// Does what is asked with a script that is read, and gives the exit status.
+/// Performs a request on a script that is read, and returns the exit status.
 fn read_script<R: Read + Drop>(
     rt: &HostRuntime,
     request: &Request<'_>,
@@ -93,7 +88,7 @@ fn read_script<R: Read + Drop>(
     done
 }
 
-/// Does what is asked with a source, writes what comes of it, and gives the exit status.
+/// Performs a request on a source, writes the results, and returns the exit status.
 fn do_request<R: Read + Drop, W: Write + Drop>(
     rt: &HostRuntime,
     request: &Request<'_>,
@@ -116,7 +111,7 @@ fn do_request<R: Read + Drop, W: Write + Drop>(
     Ok(status_if(holds))
 }
 
-/// Reports a fault of a script, or what the line is where another command reads it, and gives the
+/// Reports a fault of a script, or for which other command the line would be right, and returns the
 /// exit status.
 fn tell<R>(
     rt: &HostRuntime,
@@ -136,7 +131,7 @@ fn tell<R>(
     tell_fault(rt, Place { file, line }, fault, text)
 }
 
-/// Does what is asked with a script, and gives the exit status.
+/// Performs a request on a script, and returns the exit status.
 fn do_script<R: Read + Drop>(rt: &HostRuntime, request: &Request<'_>, from: R) -> ExitCode {
     let mut kept = Kept::new(rt.alloc(), from);
     match read_script(rt, request, &mut kept) {
@@ -145,7 +140,7 @@ fn do_script<R: Read + Drop>(rt: &HostRuntime, request: &Request<'_>, from: R) -
     }
 }
 
-/// Does what is asked with the script of a file, or of the standard input.
+/// Performs a request on the script of a file, or of the standard input.
 fn do_file(rt: &HostRuntime, request: &Request<'_>) -> ExitCode {
     match request.file {
         None => do_script(rt, request, rt.reader()),
@@ -156,7 +151,8 @@ fn do_file(rt: &HostRuntime, request: &Request<'_>) -> ExitCode {
     }
 }
 
-/// Reports that a picture shows no line, where its first is after its last. Returns whether it is.
+/// Returns whether a picture would show no line, since its first is after its last; if so, reports
+/// that on standard error.
 fn shows_no_line(rt: &HostRuntime, drawn: Drawn<'_>) -> bool {
     match (drawn.from, drawn.to) {
         (Some(from), Some(to)) if from > to => {
@@ -167,7 +163,7 @@ fn shows_no_line(rt: &HostRuntime, drawn: Drawn<'_>) -> bool {
     }
 }
 
-/// Returns the exit status of a text that the program makes of its own description.
+/// Returns the exit code for a text about the program itself: the manual or completions.
 fn described(rt: &HostRuntime, made: Result<ExitCode, Error>) -> ExitCode {
     match made {
         Ok(status) => status,
@@ -175,7 +171,7 @@ fn described(rt: &HostRuntime, made: Result<ExitCode, Error>) -> ExitCode {
     }
 }
 
-/// Does what is asked, with its file or the standard input.
+/// Performs a request, with its file or the standard input.
 fn carry_out(rt: &HostRuntime, request: &Request<'_>) -> ExitCode {
     match request.command {
         Command::Compile(made) => return compiling::compile_plan(rt, request.file, made),

@@ -6,12 +6,12 @@ use std::alloc::Global;
 use std::io::{self, Write};
 use std::process::ExitCode;
 
-/// Returns the command.
+/// Returns the command `manual` for the parser of the command line.
 pub fn command<'a>(alloc: Global) -> Result<Words<'a>, Error> {
     Ok(Words::new(alloc, "manual").about("Writes a manual page, for man"))
 }
 
-/// Writes a text of a manual page, in which a backslash and a hyphen are not those of `roff`.
+/// Writes a text of a manual page, with escapes for backslashes and hyphens.
 fn put_text<W: Write>(to: &mut W, text: &str) -> io::Result<()> {
     for byte in text.as_bytes() {
         match *byte {
@@ -85,7 +85,7 @@ mcslab \\- tests, draws and explores protocols of seL4
 .SH DESCRIPTION
 ";
 
-/// Writes a part of the help behind its title, if it has this one.
+/// Writes a part of the help after its title, if it has this one.
 fn put_part<W: Write>(to: &mut W, part: &str, title: &str, head: &str) -> io::Result<()> {
     match part.strip_prefix(title) {
         Some(text) => {

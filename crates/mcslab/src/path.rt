@@ -1,13 +1,12 @@
 //! The names of files, as messages show them.
 use std::fmt;
 
-/// The name of a file as a message shows it: `\u{..}` stands for a character that a terminal obeys
-/// and does not show.
+/// The name of a file as messages show it, with `\u{..}` for control characters.
 #[derive(Clone, Copy)]
 pub struct Path<'a>(pub &'a str);
 
-/// Returns whether a terminal obeys the character with this code: a control character, or one that
-/// turns the direction of a text.
+/// Returns whether a terminal would obey the character instead of showing it: a control character,
+/// or one that changes the direction of a text.
 fn is_obeyed(code: u32) -> bool {
     code < 32
         || (127 <= code && code < 160)

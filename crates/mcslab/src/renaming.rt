@@ -1,4 +1,4 @@
-//! The names of a script, put into a trace as it comes.
+//! Puts the names of a script into a trace as it comes.
 use crate::command_line::with;
 use crate::input::{open, tell_unopened};
 use crate::telling::{Place, line_of, tell_fault};
@@ -15,7 +15,7 @@ use std::process::ExitCode;
 /// How many lines a script or a trace may have.
 const LINES: u64 = 2_000_000;
 
-/// From how many bytes of a trace on these are written.
+/// At how many bytes the output of a trace is written.
 const HELD: usize = 65_536;
 
 /// The file of a script that has names.
@@ -35,7 +35,7 @@ pub fn command<'a>(alloc: Global) -> Result<Words<'a>, Error> {
     with(Ok(words(alloc)), script(alloc))
 }
 
-/// Returns the number of the line behind so many. Fault ManyLines where that is one too many.
+/// Returns the number of the next line. Fault `ManyLines` if there are too many.
 fn next_line(taken: u64) -> Result<u64, LabFault> {
     let line = taken.saturating_add(1);
     if line <= LINES {
@@ -111,8 +111,8 @@ impl<W: Write + Drop> TakesLines for Trace<W> {
     }
 }
 
-/// Returns the lines of a script that give names. Fault Form for one that has not their form; the
-/// others are those of the lines and of a read.
+/// Returns the lines of a script that give names. Fault `Form` for one without its form; the others
+/// are those of the lines and of a read.
 fn name_lines<R: Read>(alloc: Global, from: &mut Source<R>) -> Result<Vec<u8>, LabFault> {
     let names = Names::new(alloc);
     let text = Vec::new(alloc);
@@ -126,8 +126,8 @@ fn name_lines<R: Read>(alloc: Global, from: &mut Source<R>) -> Result<Vec<u8>, L
     Ok(text)
 }
 
-/// Returns the lines that give names of a file, or of the standard input; or the exit status, where
-/// there are none, which is reported.
+/// Returns the lines of a file, or of the standard input, that give names; if it could not be read,
+/// reports that and returns the exit status.
 fn names_in(rt: &HostRuntime, file: Option<&str>) -> Result<Vec<u8>, ExitCode> {
     let alloc = rt.alloc();
     let read = match file {
@@ -168,7 +168,7 @@ fn put_trace<R: Read, W: Write + Drop>(
     trace.put_held()
 }
 
-/// Puts the names of a script into the trace that is read, and returns the exit status.
+/// Puts the names of a script into the trace on the standard input, and returns the exit status.
 pub fn tell_trace(rt: &HostRuntime, file: Option<&str>) -> ExitCode {
     let names = match names_in(rt, file) {
         Ok(names) => names,

@@ -1,15 +1,15 @@
 //! The forms of plans, scripts and questions, as `mcslab forms` shows them.
 use crate::command_line::with;
 use crate::compiling::write_whole;
-use crate::entry_forms::ENTRIES;
 use crate::exploring::ASKED_OF_ALL;
 use clap::{Arg, ArgMatches, Command as Words, Error};
 use mcs_lab_forms::FORMS;
+use mcs_plan_words::ENTRIES;
 use std::alloc::Global;
 use std::io::{self, Write};
 use std::process::ExitCode;
 
-/// Whose forms are shown.
+/// Which forms are shown.
 #[derive(Clone, Copy)]
 pub enum Forms {
     Plan,
@@ -65,7 +65,7 @@ each command that reads a script reads `#@`:
   #@ object name           a name for an object: letters, digits, `-`, `_` and `.`
 ";
 
-/// The questions to the state after a step.
+/// The questions about the state after a step.
 const ASKED_OF_A_STEP: &str = "\
 Lines after a step say what is wanted of it (mcslab check):
   = got 9 7 5          its answer
@@ -90,12 +90,12 @@ fn what<'a>(alloc: Global) -> Arg<'a> {
         .value_parser(NAMES)
 }
 
-/// Returns the command without its argument.
+/// Returns the command `forms` without its argument.
 fn words<'a>(alloc: Global) -> Words<'a> {
     Words::new(alloc, "forms").about("Shows the forms of a plan, of a script, or of questions")
 }
 
-/// Returns the command.
+/// Returns the command `forms` for the parser of the command line.
 pub fn command<'a>(alloc: Global) -> Result<Words<'a>, Error> {
     with(Ok(words(alloc)), what(alloc))
 }

@@ -8,7 +8,7 @@ use std::fs::{self, File};
 use std::io::{self, ErrorKind, Write};
 use std::process::ExitCode;
 
-/// The name of the plans that are written, and whether they overwrite files.
+/// The name of the plans to write, and whether they overwrite files.
 #[derive(Clone, Copy)]
 pub struct Begun<'a> {
     pub name: &'a str,
@@ -62,7 +62,7 @@ user fs: send fs.reply 0
 #! some fs 1 got 2 **
 ";
 
-/// How to go on.
+/// How to continue.
 const NEXT: &str = "\
 NAME.plan is a protocol with steps, and NAME-users.plan one with users, whose orders are all looked at. Go on with
 
@@ -87,14 +87,14 @@ fn force<'a>(alloc: Global) -> Arg<'a> {
         .action(ArgAction::SetTrue)
 }
 
-/// Returns the command without options.
+/// Returns the command `init` without options.
 fn words<'a>(alloc: Global) -> Words<'a> {
     Words::new(alloc, "init")
         .about("Writes two small plans to begin with: NAME.plan and NAME-users.plan")
         .after_help(NEXT)
 }
 
-/// Returns the command.
+/// Returns the command `init` for the parser of the command line.
 pub fn command<'a>(alloc: Global) -> Result<Words<'a>, Error> {
     with(with(Ok(words(alloc)), force(alloc)), name(alloc))
 }
@@ -108,7 +108,7 @@ pub fn asked<'a>(found: &ArgMatches<'a>) -> Begun<'a> {
     }
 }
 
-/// Writes a file. AlreadyExists where there is one, and none may be overwritten.
+/// Writes a file. `AlreadyExists` if there is one that must not be overwritten.
 fn write(rt: &HostRuntime, path: &str, text: &str, is_forced: bool) -> io::Result<()> {
     if is_forced {
         return fs::write(rt, path, text.as_bytes());
@@ -117,7 +117,7 @@ fn write(rt: &HostRuntime, path: &str, text: &str, is_forced: bool) -> io::Resul
     file.write_all(text.as_bytes())
 }
 
-/// Returns whether a file is in the way of one that is written.
+/// Returns whether an existing file prevents writing one.
 fn is_in_the_way(rt: &HostRuntime, path: &str, is_forced: bool) -> bool {
     !is_forced && fs::open(rt, path).is_ok()
 }
@@ -132,15 +132,15 @@ fn tell_unwritten(rt: &HostRuntime, path: &str, kind: ErrorKind, error: &io::Err
     ExitCode::from(Outcome::Call.status())
 }
 
-/// Reports that a file is there already, and returns the exit status.
+/// Reports that a file exists already, and returns the exit status.
 fn tell_there(rt: &HostRuntime, path: &str) -> ExitCode {
     let path = Path(path);
     let _ = eprintln!(rt; "mcslab: {path} is there already; --force overwrites it");
     ExitCode::from(Outcome::Call.status())
 }
 
-/// Writes both plans under these names, and returns the exit status. Writes neither where a file is
-/// in the way.
+/// Writes both plans under these names, and returns the exit status. Writes neither if a file
+/// exists already.
 fn write_both(rt: &HostRuntime, paths: [&str; 2], is_forced: bool) -> ExitCode {
     for path in paths {
         if is_in_the_way(rt, path, is_forced) {

@@ -1,18 +1,18 @@
-//! Messages on faults, by the file that was given and its line, as compilers write them.
-use crate::advice::{message_of, plan_words};
+//! Messages about faults, with the file and the line, as compilers write them.
 use crate::command_line::Command;
 use crate::hints::hint_of;
 use crate::path::Path;
 use mcs_explore_questions::ExploreFault;
 use mcs_lab_check::{Flaw, LabFault, Outcome, put_shown};
-use mcs_plan_source::{Plan, PlanFault, Why};
+use mcs_plan_source::{Plan, PlanFault};
 use mcs_plan_validate::CompileFault;
+use mcs_plan_words::{Stranger, line_of_plan, message_of, plan_words};
 use mcs_text::LineFault;
 use std::alloc::Global;
 use std::process::ExitCode;
 use std::{fmt, io, str};
 
-/// The place of a fault: the file, None for the standard input, and the line, where there is one.
+/// The place of a fault: the file, None for the standard input, and the line, if there is one.
 #[derive(Clone, Copy)]
 pub struct Place<'a> {
     pub file: Option<&'a str>,
@@ -41,10 +41,10 @@ fn put_place<W: fmt::Write>(
     }
 }
 
-/// What is said of a line of a question or of a name that has none of their forms.
+/// The message for a line of a question or of a name without its form.
 const NO_FORM: &str = "no question and no name has this form";
 
-/// What is said of a line, after its place.
+/// The message about a line, after its place.
 #[derive(Clone, Copy)]
 struct OfLine<'a>(&'a ExploreFault);
 
@@ -58,7 +58,7 @@ impl fmt::Display for OfLine<'_> {
     }
 }
 
-/// Writes what is said of a line of a script, or of what has no line.
+/// Writes the message about a line of a script, or about a fault without a line.
 fn put_lab<W: fmt::Write>(f: &mut fmt::Formatter<W>, fault: LabFault) -> fmt::Result {
     match fault {
         LabFault::Script { why, .. } => {
@@ -88,7 +88,7 @@ fn put_lab<W: fmt::Write>(f: &mut fmt::Formatter<W>, fault: LabFault) -> fmt::Re
     }
 }
 
-/// Returns the line of a fault, where it has one.
+/// Returns the line of a fault, if it has one.
 pub fn line_of(fault: &ExploreFault) -> Option<u64> {
     match fault {
         ExploreFault::Question { line, .. } | ExploreFault::Program { line, .. } => Some(*line),
@@ -106,14 +106,14 @@ pub fn line_of(fault: &ExploreFault) -> Option<u64> {
     }
 }
 
-/// What is odd in a line of a script, whose words one blank separates: its place, and what it is.
+/// Something odd in a line of a script, such as two blanks in a row: its position, and what it is.
 #[derive(Clone, Copy)]
 struct Oddity {
     place: usize,
     what: &'static str,
 }
 
-/// Returns the place of a blank behind another one.
+/// Returns the position of the second of two adjacent blanks.
 fn double_blank(line: &[u8]) -> Option<usize> {
     let mut is_behind = false;
     for (place, byte) in line.iter().enumerate() {
@@ -126,7 +126,7 @@ fn double_blank(line: &[u8]) -> Option<usize> {
     None
 }
 
-/// Returns what is odd in a line: a tab, a blank at its beginning or its end, or two side by side.
+/// Returns what is odd in a line: a tab, a blank at its beginning or its end, or two in a row.
 fn oddity_of(line: &[u8]) -> Option<Oddity> {
     if let Some(place) = line.iter().position(|byte| *byte == b'\t') {
         let what = "a tab stands in it";
@@ -148,7 +148,7 @@ fn oddity_of(line: &[u8]) -> Option<Oddity> {
     None
 }
 
-/// Returns a line as messages show it, and below it a mark at this place.
+/// Returns a line as messages show it, and below it a mark at this position.
 fn marked(alloc: Global, line: &[u8], place: usize) -> io::Result<Vec<u8>> {
     let mut before = Vec::new(alloc);
     put_shown(&mut before, line.get(..place).unwrap_or(line))?;
@@ -163,7 +163,7 @@ fn marked(alloc: Global, line: &[u8], place: usize) -> io::Result<Vec<u8>> {
     Ok(text)
 }
 
-/// Shows a line, and below it a mark at this place.
+/// Shows a line, and below it a mark at this position.
 fn show_mark(rt: &HostRuntime, line: &[u8], place: usize) {
     if let Ok(text) = marked(rt.alloc(), line, place)
         && let Ok(text) = str::from_utf8(&text)
@@ -172,14 +172,14 @@ fn show_mark(rt: &HostRuntime, line: &[u8], place: usize) {
     }
 }
 
-/// Reports what is odd in a line, behind its place and its fault, and shows where.
+/// Reports what is odd in a line, after its place and its fault, and shows where.
 fn tell_odd(rt: &HostRuntime, place: Place<'_>, what: OfLine<'_>, line: &[u8], odd: Oddity) {
     let why = odd.what;
     let _ = eprintln!(rt; "{place}{what}: {why}");
     show_mark(rt, line, odd.place);
 }
 
-/// Returns the place of the flaw that a fault reports, in a line without its newline.
+/// Returns the position of the flaw that a fault reports, in a line without its newline.
 fn flaw_place(fault: &ExploreFault, line: &[u8]) -> Option<usize> {
     match fault {
         ExploreFault::Lab(LabFault::Flawed { flaw, .. }) => match flaw {
@@ -190,7 +190,7 @@ fn flaw_place(fault: &ExploreFault, line: &[u8]) -> Option<usize> {
     }
 }
 
-/// Returns whether a line of a script fits no form, and has no flaw that its fault reports.
+/// Returns whether a line of a script fits no form, without a flaw that its fault reports.
 fn has_no_form(fault: &ExploreFault) -> bool {
     match fault {
         ExploreFault::Lab(LabFault::Script { why, .. }) => *why == LineFault::Form,
@@ -199,9 +199,9 @@ fn has_no_form(fault: &ExploreFault) -> bool {
     }
 }
 
-/// Reports a fault at this line of a file, or without a line where it has none, and returns the
-/// exit status. Where the text of the line is given, the place of a flaw is marked; for a line that
-/// fits no form the report says what is odd in it, or else what may help.
+/// Reports a fault at this line of a file, or without a line if it has none, and returns the exit
+/// status. If the text of the line is given, the position of a flaw is marked; for a line that fits
+/// no form the report says what is odd in it, or else gives a hint.
 pub fn tell_fault(
     rt: &HostRuntime,
     place: Place<'_>,
@@ -237,27 +237,8 @@ pub fn tell_fault(
     status
 }
 
-/// Returns the line of the fault of a plan, where it has one.
-pub fn line_of_plan(fault: &CompileFault) -> Option<u64> {
-    match fault {
-        CompileFault::Plan(
-            PlanFault {
-                why: Why::OutOfMemory,
-                ..
-            },
-        ) => None,
-        CompileFault::Plan(fault) if fault.line > 0 => Some(fault.line),
-        CompileFault::Plan(_)
-        | CompileFault::Script(_)
-        | CompileFault::Boot(_)
-        | CompileFault::OtherBoot
-        | CompileFault::Astray(_)
-        | CompileFault::User(_)
-        | CompileFault::OutOfMemory => None,
-    }
-}
-
-/// Reports that a line of a plan is refused, with what may help where there is memory for it.
+/// Returns the line of the fault of a plan, if it has one.
+/// Reports a refused line of a plan, with a hint if there is memory for it.
 fn tell_plan_line(rt: &HostRuntime, place: Place<'_>, plan: &[u8], fault: &PlanFault) {
     match message_of(rt.alloc(), plan, fault) {
         Ok(message) => {
@@ -270,7 +251,7 @@ fn tell_plan_line(rt: &HostRuntime, place: Place<'_>, plan: &[u8], fault: &PlanF
     }
 }
 
-/// Reports why a plan becomes no script, and returns the exit status.
+/// Reports why a plan does not compile, and returns the exit status.
 pub fn tell_plan_fault(
     rt: &HostRuntime,
     file: Option<&str>,
@@ -289,35 +270,16 @@ pub fn tell_plan_fault(
     ExitCode::from(fault.status())
 }
 
-/// What a command is given that another command reads.
-#[derive(Clone, Copy, PartialEq, Eq)]
-pub enum Stranger {
-    Plan,
-    Users,
-    Steps,
-}
-
-impl Stranger {
-    /// Returns what is said of it.
-    fn text(self) -> &'static str {
-        match self {
-            Stranger::Plan => "this is a plan: name its file NAME.plan, or give --plan",
-            Stranger::Users => "this is a line of users: mcslab explore, mcslab walk or mcssim run",
-            Stranger::Steps => {
-                "this is a step: mcslab check, why, state, json or draw, or mcssim replay"
-            }
-        }
-    }
-}
-
-/// Reports that a line is one that another command reads, and returns the exit status.
+/// Input that is right for another command.
+/// Returns the message about it.
+/// Reports that a line is right for another command, and returns the exit status.
 pub fn tell_stranger(rt: &HostRuntime, place: Place<'_>, stranger: Stranger) -> ExitCode {
     let text = stranger.text();
     let _ = eprintln!(rt; "{place}{text}");
     ExitCode::from(Outcome::Refused.status())
 }
 
-/// Returns whether a command reads users, and not steps.
+/// Returns whether a command reads users, not steps.
 pub fn reads_users(command: Command<'_>) -> bool {
     match command {
         Command::Explore(_) | Command::Walk(_) => true,
@@ -335,7 +297,7 @@ pub fn reads_users(command: Command<'_>) -> bool {
     }
 }
 
-/// Returns whether a line reads as the first of a plan.
+/// Returns whether a line looks like the first of a plan.
 fn begins_plan(alloc: Global, line: &[u8]) -> bool {
     match plan_words(alloc, line) {
         Some(words) => !words.is_empty() && Plan::new(alloc).read(alloc, 1, &words).is_ok(),
@@ -343,7 +305,7 @@ fn begins_plan(alloc: Global, line: &[u8]) -> bool {
     }
 }
 
-/// Returns what a line that was refused is, if another command reads it.
+/// Returns for which other command a refused line would be right, if for any.
 pub fn stranger_of(
     alloc: Global,
     command: Command<'_>,

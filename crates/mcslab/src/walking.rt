@@ -1,4 +1,4 @@
-//! Runs of the users of a script that are drawn by chance, as the command line asks for them.
+//! Random runs of the users of a script, as the command line asks for them.
 ghost use Rattle.std.specs.Prelude.{◌≡◌, ◌⊎◌, IfOk, if◌then◌else◌};
 ghost use Rattle.mcs_explore_run.specs.Samples.{HasReadFailing};
 
@@ -14,13 +14,13 @@ use mcs_sim::Source;
 use std::alloc::{AllocError, Global};
 use std::io::{Read, Write};
 
-/// The seed, where nothing else is said.
+/// The seed, if nothing else is said.
 const SEED: u64 = 1;
 
-/// How many turns a run makes at most, where nothing else is said.
+/// How many turns a run makes at most, if nothing else is said.
 const TURNS: u64 = 1_000;
 
-/// By which seed turns are drawn, how many at most, and how many runs are reported on; None where
+/// The seed by which turns are drawn, how many at most, and how many runs are reported on; None if
 /// one is written.
 #[derive(Clone, Copy)]
 pub struct Chance {
@@ -41,7 +41,7 @@ and the same --turns, writes this run. The status is 1 if something failed, and 
 
 `mcslab --help` has the exit statuses.";
 
-/// Returns the command without options.
+/// Returns the command `walk` without options.
 fn words<'a>(alloc: Global) -> Words<'a> {
     Words::new(alloc, "walk")
         .about("Takes orders of the users of a script by chance: writes one, or reports on many")
@@ -71,7 +71,7 @@ fn runs<'a>(alloc: Global) -> Arg<'a> {
         .value_parser(ValueParser::unsigned(1, u64::MAX))
 }
 
-/// Returns the command.
+/// Returns the command `walk` for the parser of the command line.
 pub fn command<'a>(alloc: Global, file: Arg<'a>) -> Result<Words<'a>, Error> {
     let words = with(Ok(words(alloc)), seed(alloc));
     let words = with(words, turns(alloc));
@@ -101,7 +101,7 @@ fn last_line(alloc: Global, drawn: &Drawn) -> Result<String, AllocError> {
     format!(in alloc; "# after {turns} turns: {end}\n")
 }
 
-/// Draws a run of the users of a script, and writes the script that shows it.
+/// Draws a run of the users of a script, and writes its script.
 fn write_run<R: Read, W: Write>(
     alloc: Global,
     from: &mut Source<R>,
@@ -117,7 +117,7 @@ fn write_run<R: Read, W: Write>(
     Ok(())
 }
 
-/// Returns the exit status where runs show a failure, or do not: they never show that all is well.
+/// Returns the exit status for runs that show a failure, or none: they never show that all is well.
 fn status_of(fails: bool) -> u8
     ensures { result ≡ (if fails then 1 else 3) }
 {
@@ -128,7 +128,7 @@ fn status_of(fails: bool) -> u8
     }
 }
 
-/// Draws runs of the users of a script, reports what came in them, and returns the exit status.
+/// Draws runs of the users of a script, reports on them, and returns the exit status.
 fn report_runs<R: Read, W: Write>(
     alloc: Global,
     from: &mut Source<R>,
@@ -138,15 +138,15 @@ fn report_runs<R: Read, W: Write>(
     // status 1: a script was read, and some run of it shows the failure
     ensures fails { IfOk result (λ status. status ≡ 1
         → HasReadFailing (R.remaining from.old.reader) (R.remaining from.new.reader)) }
-    // else it is 3: runs by chance never show that all is well
+    // else it is 3: random runs never show that all is well
     ensures unsure { IfOk result (λ status. (status ≡ 1) ⊎ (status ≡ 3)) }
 {
     let fails = tell_runs(alloc, from, chances, to)?;
     Ok(status_of(fails))
 }
 
-/// Draws one run of the users of a script, and writes the script that shows it; or draws many, and
-/// reports what came in them. Returns the exit status.
+/// Draws one run of the users of a script, and writes its script; or draws many, and reports on
+/// them. Returns the exit status.
 pub fn walk<R: Read, W: Write>(
     alloc: Global,
     from: &mut Source<R>,

@@ -4,6 +4,7 @@
 //! script ── replay ──> trace          script ── check ──> verdicts
 //! script ── why, state, draw ──> what did nothing, JSON, SVG
 //! plan ── compile ──> script          script of users ── explore, search ──> report, with scripts
+//! plan ── check_plan, why_plan, .. ──> the same in the plan's words
 //! Run: lines ── take ──> what each adds to the trace
 //! ```
 //!
@@ -156,17 +157,52 @@ pub fn search(script: &[u8], states: u64) -> Result<Report, Error> {
     sought(raw::mcs_search, script, states)
 }
 
-/// A call of `mcs.h` that goes through all orders.
-type Search = unsafe extern "C" fn(*const u8, usize, u64, *mut u8, usize, *mut raw::mcs_end) -> u32;
+/// Checks a plan, and returns the verdicts in its own words, as `mcslab check` does.
+pub fn check_plan(plan: &[u8]) -> Result<Report, Error> {
+    called(raw::mcs_check_plan, plan)
+}
+
+/// Explains each step of a plan that did nothing, and what is stuck, in its own words, as
+/// `mcslab why` does.
+pub fn why_plan(plan: &[u8]) -> Result<Report, Error> {
+    called(raw::mcs_why_plan, plan)
+}
+
+/// Returns the state after a line of a plan, or after its last one for line 0, as
+/// `mcslab state --json` does.
+pub fn state_plan(plan: &[u8], line: u64) -> Result<Report, Error> {
+    sought(raw::mcs_state_plan, plan, line)
+}
+
+/// Draws a plan as SVG in its own words, as `mcslab draw` does.
+pub fn draw_plan(plan: &[u8]) -> Result<Report, Error> {
+    called(raw::mcs_draw_plan, plan)
+}
+
+/// Goes through all orders of the users of a plan, finding no more than so many states, and returns
+/// the report in the plan's words, as `mcslab explore` does; or a line that says why there is none.
+pub fn explore_plan(plan: &[u8], states: u64) -> Result<Report, Error> {
+    sought(raw::mcs_explore_plan, plan, states)
+}
+
+/// Does the same, and returns behind the report the shortest script of steps to each thing that it
+/// tells, each behind a line `== NAME`.
+pub fn search_plan(plan: &[u8], states: u64) -> Result<Report, Error> {
+    sought(raw::mcs_search_plan, plan, states)
+}
+
+/// A call of `mcs.h` that reads one text and a number, as that of the states of a search.
+type Numbered =
+    unsafe extern "C" fn(*const u8, usize, u64, *mut u8, usize, *mut raw::mcs_end) -> u32;
 
 /// Returns what such a call writes.
-fn sought(call: Search, script: &[u8], states: u64) -> Result<Report, Error> {
+fn sought(call: Numbered, text: &[u8], number: u64) -> Result<Report, Error> {
     // SAFETY: as in `called`.
-    whole(room_for(script.len()), |out, end| unsafe {
+    whole(room_for(text.len()), |out, end| unsafe {
         call(
-            script.as_ptr(),
-            script.len(),
-            states,
+            text.as_ptr(),
+            text.len(),
+            number,
             out.as_mut_ptr(),
             out.len(),
             end,

@@ -102,4 +102,55 @@ unsafe extern "C" {
         room: usize,
         end: *mut mcs_end,
     ) -> u32;
+
+    pub fn mcs_check_plan(
+        plan: *const u8,
+        plan_length: usize,
+        out: *mut u8,
+        room: usize,
+        end: *mut mcs_end,
+    ) -> u32;
+
+    pub fn mcs_why_plan(
+        plan: *const u8,
+        plan_length: usize,
+        out: *mut u8,
+        room: usize,
+        end: *mut mcs_end,
+    ) -> u32;
+
+    pub fn mcs_state_plan(
+        plan: *const u8,
+        plan_length: usize,
+        line: u64,
+        out: *mut u8,
+        room: usize,
+        end: *mut mcs_end,
+    ) -> u32;
+
+    pub fn mcs_draw_plan(
+        plan: *const u8,
+        plan_length: usize,
+        out: *mut u8,
+        room: usize,
+        end: *mut mcs_end,
+    ) -> u32;
+
+    pub fn mcs_explore_plan(
+        plan: *const u8,
+        plan_length: usize,
+        states: u64,
+        out: *mut u8,
+        room: usize,
+        end: *mut mcs_end,
+    ) -> u32;
+
+    pub fn mcs_search_plan(
+        plan: *const u8,
+        plan_length: usize,
+        states: u64,
+        out: *mut u8,
+        room: usize,
+        end: *mut mcs_end,
+    ) -> u32;
 }

@@ -1,5 +1,8 @@
 //! The calls of the library, each once where all is well, and where a line is refused.
-use mcs_sys::{Ended, Error, Report, Run, check, compile, explore, replay};
+use mcs_sys::{
+    Ended, Error, Report, Run, check, check_plan, compile, draw_plan, explore, explore_plan,
+    replay, search_plan, state_plan, why_plan,
+};
 
 const BOOT: &str = "cores 1
 cnode 1
@@ -109,11 +112,25 @@ fn what_does_not_hold_is_unmet() {
     assert!(text.ends_with("\n1..2\n"), "{text}");
 }
 
+const PLAN: &str = "endpoint work\nreply work.reply\nthread client prio 10\nthread server prio 20\nclient has work:wp=42\n\
+     server has work:r work.reply\nserver: recv work work.reply\nclient: call work 7\n? server got 42 7\n";
+
+#[test]
+fn a_plan_is_told_in_its_own_words() {
+    let plan = PLAN.as_bytes();
+    let verdicts = "ok 1 - line 9: server got 42 7\n1..1\n";
+    assert_eq!(told(check_plan(plan)), (verdicts.to_string(), Ended::Done));
+    assert_eq!(told(why_plan(plan)), (String::new(), Ended::Done));
+    assert!(told(draw_plan(plan)).0.contains("client: call work 7"));
+    assert_eq!(state_plan(plan, 0).unwrap(), state_plan(plan, 9).unwrap());
+    let steps = Ended::Refused { line: 7, fault: 14 };
+    assert_eq!(explore_plan(plan, 1000).unwrap().ended, steps);
+    assert_eq!(search_plan(plan, 1000).unwrap().ended, steps);
+}
+
 #[test]
 fn a_plan_becomes_a_script_that_holds() {
-    let plan = "endpoint work\nreply work.reply\nthread client prio 10\nthread server prio 20\nclient has work:wp=42\n\
-                server has work:r work.reply\nserver: recv work work.reply\nclient: call work 7\n? server got 42 7\n";
-    let made = compile(plan.as_bytes()).unwrap();
+    let made = compile(PLAN.as_bytes()).unwrap();
     assert_eq!(made.ended, Ended::Done);
     assert_eq!(check(&made.text).unwrap().ended, Ended::Done);
     let refused = compile(b"endpoint work\nendpoint work\n").unwrap();

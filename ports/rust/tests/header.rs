@@ -49,7 +49,7 @@ fn functions_are_those_of_the_header() {
         p.rsplit([' ', '*']).next().unwrap()
     });
     let in_rust = functions(RAW, "pub fn ", |p| p.split(':').next().unwrap());
-    assert_eq!(in_c.len(), 10);
+    assert_eq!(in_c.len(), 16);
     assert_eq!(in_c, in_rust);
 }
 

@@ -1,6 +1,6 @@
-//! The numbers of lines in reports on a plan: those of the plan, not of the script that came of it.
-/// How a command writes the number of a line: at the beginning of a line of its own, where nothing
-/// that a script says can stand.
+//! The line numbers in reports on a plan: the plan's, not the script's.
+/// How a command writes the number of a line at the beginning of a line of its report, where no
+/// text of a script can be.
 #[derive(Clone, Copy)]
 pub enum Form {
     /// `ok 3 - line 12: ..`, `  line: 12`, `Bail out! line 12: ..`, as `mcslab check`.
@@ -13,14 +13,16 @@ pub enum Form {
     State,
     /// None: `mcslab explore` reads its questions in the plan's lines.
     Orders,
+    /// `mcslab: line 12: ..`, why there is no report on all orders.
+    NoOrders,
 }
 
-/// The number of a line in a line of a report, and what is before and after it.
+/// A line number in a line of a report, and the text before and after it.
 #[derive(Clone, Copy)]
-pub struct Found<'a> {
-    pub before: &'a [u8],
-    pub number: u64,
-    pub behind: &'a [u8],
+pub(crate) struct Found<'a> {
+    pub(crate) before: &'a [u8],
+    pub(crate) number: u64,
+    pub(crate) behind: &'a [u8],
 }
 
 /// Returns how many digits a text begins with.
@@ -30,7 +32,7 @@ fn count_digits(text: &[u8]) -> usize {
         .unwrap_or(text.len())
 }
 
-/// Returns the number that digits spell; None where there are none, or too many.
+/// Returns the number that digits spell; None if there are none, or too many.
 fn number_of(digits: &[u8]) -> Option<u64> {
     if digits.is_empty() {
         return None;
@@ -43,7 +45,7 @@ fn number_of(digits: &[u8]) -> Option<u64> {
     Some(number)
 }
 
-/// Returns the number at this place of a line.
+/// Returns the number at this position of a line.
 fn found_at(line: &[u8], place: usize) -> Option<Found<'_>> {
     let (before, rest) = line.split_at_checked(place)?;
     let (digits, behind) = rest.split_at_checked(count_digits(rest))?;
@@ -54,7 +56,7 @@ fn found_at(line: &[u8], place: usize) -> Option<Found<'_>> {
     })
 }
 
-/// Returns how many bytes of a line are before the number of a verdict's line.
+/// Returns how many bytes precede the number in a line of a verdict.
 fn verdict_place(line: &[u8]) -> Option<usize> {
     let rest = line.strip_prefix(b"not ".as_slice()).unwrap_or(line);
     let rest = rest.strip_prefix(b"ok ".as_slice())?;
@@ -63,17 +65,18 @@ fn verdict_place(line: &[u8]) -> Option<usize> {
     line.len().checked_sub(rest.len())
 }
 
-/// Returns how many bytes of a line are before its number, where they are these.
+/// Returns how many bytes precede the number in a line that begins with `head`.
 fn place_behind(line: &[u8], head: &[u8]) -> Option<usize> {
     line.strip_prefix(head)?;
     Some(head.len())
 }
 
-/// Returns how many bytes of a line of a report are before the number of a line, where it has one.
+/// Returns how many bytes precede the number in a line of a report, if it has one.
 fn place_of(form: Form, line: &[u8]) -> Option<usize> {
     match form {
         Form::Lines => place_behind(line, b"line "),
         Form::Json => place_behind(line, b"{\"line\":"),
+        Form::NoOrders => place_behind(line, b"mcslab: line "),
         Form::State | Form::Orders => None,
         Form::Tap => {
             if let Some(place) = verdict_place(line) {
@@ -87,21 +90,21 @@ fn place_of(form: Form, line: &[u8]) -> Option<usize> {
     }
 }
 
-/// Returns the number of a line that a line of a report has, if it has one.
-pub fn found_in(form: Form, line: &[u8]) -> Option<Found<'_>> {
+/// Returns the line number in a line of a report, if it has one.
+pub(crate) fn found_in(form: Form, line: &[u8]) -> Option<Found<'_>> {
     found_at(line, place_of(form, line)?)
 }
 
-/// Returns the number that stands for a line, of these; that of the line itself where there are
-/// none.
+/// Returns the number of the plan's line from which a line of the script came; `line` if `numbers`
+/// has none for it.
 pub fn number_in(numbers: &[u64], line: u64) -> u64 {
     let place = line.saturating_sub(1) as usize;
     numbers.get(place).copied().unwrap_or(line)
 }
 
-/// Returns the last line of a script that came of this line of a plan or of one before it, but none
-/// before the end of its boot, of so many lines.
-pub fn last_line(numbers: &[u64], boot: usize, line: u64) -> u64 {
+/// Returns the last line of a script, from the end of its boot on, that came from this line of a
+/// plan or an earlier one.
+pub(crate) fn last_line(numbers: &[u64], boot: usize, line: u64) -> u64 {
     let mut last = boot;
     for (before, number) in numbers.iter().enumerate() {
         if *number <= line && before >= boot {

@@ -1,5 +1,5 @@
-//! Texts of the script that a plan became, by the plan's names: `fs: recv fs.ep fs.reply` for
-//! `0 t3 recv 1 2`, and `fs.ep.recv` for `e1.recv (fs.ep)`.
+//! Texts of a plan's script with the plan's names: `fs: recv fs.ep fs.reply` for `0 t3 recv 1 2`,
+//! and `fs.ep.recv` for `e1.recv (fs.ep)`.
 use mcs_lab_check::object_of;
 use mcs_lab_forms::{Fields, LooksUp, form_of, number_of};
 use mcs_plan_compile::Script;
@@ -10,15 +10,15 @@ use std::str;
 /// From which number on numbers are written in hexadecimal.
 const LARGE: u64 = 1 << 32;
 
-/// A thread of a script, by its place among the threads.
+/// A thread of a script, by its index among the threads.
 #[derive(Clone, Copy)]
-pub struct Speaker<'a> {
-    pub script: &'a Script,
-    pub place: usize,
+pub(crate) struct Speaker<'a> {
+    pub(crate) script: &'a Script,
+    pub(crate) place: usize,
 }
 
-/// Returns the place of a thread among the threads; None for a word that is no thread's.
-pub fn thread_place(word: &[u8]) -> Option<usize> {
+/// Returns the index of a thread; None for a word that names no thread.
+pub(crate) fn thread_place(word: &[u8]) -> Option<usize> {
     let object = object_of(word)?;
     match word {
         [b't', ..] => Some(object.serial.checked_sub(1)? as usize),
@@ -65,7 +65,7 @@ impl<'a> Speaker<'a> {
         None
     }
 
-    /// Adds an address by its name, or a word that is none as it is.
+    /// Appends an address by its name; any other word unchanged.
     fn add_address(self, alloc: Global, to: &mut Vec<u8>, word: &[u8]) -> Result<(), AllocError> {
         let Some(address) = number_of(word) else {
             return to.extend_from_slice(word);
@@ -76,7 +76,7 @@ impl<'a> Speaker<'a> {
         }
     }
 
-    /// Adds an index and the depth that follows it by the name of the slot, or both as they are.
+    /// Appends an index and the depth after it as the name of the slot, or both unchanged.
     fn add_place(
         self,
         alloc: Global,
@@ -94,7 +94,7 @@ impl<'a> Speaker<'a> {
         add_plain(alloc, to, depth)
     }
 
-    /// Adds the word of an operand, or two for a place.
+    /// Appends the word of an operand, or two for a place.
     fn add_operand(
         self,
         alloc: Global,
@@ -118,8 +118,8 @@ impl<'a> Speaker<'a> {
         }
     }
 
-    /// Adds an entry of the thread, as a script spells it, by the names that the thread has.
-    pub fn add_entry(
+    /// Appends an entry of the thread, as a script spells it, with the names that the thread has.
+    pub(crate) fn add_entry(
         self,
         alloc: Global,
         to: &mut Vec<u8>,
@@ -143,7 +143,7 @@ impl<'a> Speaker<'a> {
     }
 }
 
-/// Adds the thread of a step, and its core where there are several.
+/// Appends the thread of a step, and its core if the machine has several.
 fn add_head(
     to: &mut Vec<u8>,
     script: &Script,
@@ -161,8 +161,8 @@ fn add_head(
     to.extend_from_slice(b": ")
 }
 
-/// Adds a step of a script by the plan's names; as it is where it is none.
-pub fn add_step(
+/// Appends a step of a script with the plan's names; unchanged if it is none.
+pub(crate) fn add_step(
     alloc: Global,
     to: &mut Vec<u8>,
     script: &Script,
@@ -179,7 +179,7 @@ pub fn add_step(
     Speaker { script, place }.add_entry(alloc, to, entry)
 }
 
-/// Returns a step of a script by the plan's names; an empty text for a line that is no step.
+/// Returns a step of a script with the plan's names; an empty text for a line that is no step.
 fn step_text(alloc: Global, script: &Script, line: &[u8]) -> Result<String, AllocError> {
     let mut text = Vec::new(alloc);
     if matches!(line, [b'0'..=b'9', ..]) {
@@ -192,8 +192,12 @@ fn step_text(alloc: Global, script: &Script, line: &[u8]) -> Result<String, Allo
     Ok(step)
 }
 
-/// Returns for each line of a script the plan's text of its step; an empty one where it is none.
-pub fn step_texts(alloc: Global, script: &Script, text: &[u8]) -> Result<Vec<String>, AllocError> {
+/// Returns for each line of a script the plan's text of its step; an empty one if it is none.
+pub(crate) fn step_texts(
+    alloc: Global,
+    script: &Script,
+    text: &[u8],
+) -> Result<Vec<String>, AllocError> {
     let mut texts = Vec::new(alloc);
     for line in text.split(|byte| *byte == b'\n') {
         texts.push(step_text(alloc, script, line)?)?;
@@ -201,21 +205,21 @@ pub fn step_texts(alloc: Global, script: &Script, text: &[u8]) -> Result<Vec<Str
     Ok(texts)
 }
 
-/// What a word of a report names: the name of an object, and the end of the word, as `.recv`.
+/// What a word of a report names: the name of an object, and the word's suffix, as `.recv`.
 #[derive(Clone, Copy)]
 struct NamedWord<'a> {
     name: &'a str,
     end: &'a [u8],
 }
 
-/// Returns how many bytes of a word are before its first dot; all where it has none.
+/// Returns how many bytes of a word are before its first dot; all if it has none.
 fn object_len(word: &[u8]) -> usize {
     word.iter()
         .position(|byte| *byte == b'.')
         .unwrap_or(word.len())
 }
 
-/// Returns what a word names; None where it names no object that has a name.
+/// Returns what a word names; None if it names no object that has a name.
 fn named_word<'a>(script: &'a Script, word: &'a [u8]) -> Option<NamedWord<'a>> {
     let (object, end) = word.split_at_checked(object_len(word))?;
     let name = script.laid.plan.names.name_of(object_of(object)?);
@@ -230,14 +234,14 @@ fn is_of_word(byte: u8) -> bool {
     byte.is_ascii_alphanumeric() || byte == b'.' || byte == b'_' || byte == b'-'
 }
 
-/// Returns how many bytes of a text are before the first of a word, or before the first of none.
+/// Returns the length of the run of word bytes, or of other bytes, at the beginning of a text.
 fn run_len(text: &[u8], is_word: bool) -> usize {
     text.iter()
         .position(|byte| is_of_word(*byte) != is_word)
         .unwrap_or(text.len())
 }
 
-/// Returns a text without the name between parentheses with which it begins, if it is this one.
+/// Returns a text after the name in parentheses with which it begins, if it is this one.
 fn behind_name<'a>(text: &'a [u8], name: &str) -> &'a [u8] {
     let Some(inner) = text.strip_prefix(b" (".as_slice()) else {
         return text;
@@ -248,7 +252,7 @@ fn behind_name<'a>(text: &'a [u8], name: &str) -> &'a [u8] {
     inner.strip_prefix(b")".as_slice()).unwrap_or(text)
 }
 
-/// Adds a word of a report, and returns what of the text behind it is left.
+/// Appends a word of a report, and returns the rest of the text.
 fn add_word<'a>(
     alloc: Global,
     to: &mut Vec<u8>,
@@ -265,15 +269,15 @@ fn add_word<'a>(
     Ok(behind_name(text, named.name))
 }
 
-/// Adds a text of a report, with the plan's names for objects.
-pub fn add_text(
+/// Appends a text of a report, with the plan's names for objects.
+pub(crate) fn add_text(
     alloc: Global,
     to: &mut Vec<u8>,
     script: &Script,
     text: &[u8],
 ) -> Result<(), AllocError> {
     let mut left = text;
-    // each turn takes a byte at least
+    // each round takes at least one byte
     for _ in 0..text.len() {
         let Some((between, rest)) = left.split_at_checked(run_len(left, false)) else {
             break;

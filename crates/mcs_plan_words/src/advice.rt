@@ -1,4 +1,4 @@
-//! The message on a line of a plan that is refused: its fault, and what may help.
+//! Messages about a refused line of a plan: its fault, and a hint.
 use crate::entry_forms::{form_of, missing_of};
 use mcs_lab_forms::meant_by;
 use mcs_plan_source::{
@@ -18,8 +18,8 @@ fn without_return(line: &[u8]) -> &[u8] {
     }
 }
 
-/// Returns the words of a line of a plan without its comment; None where it is no text, or memory
-/// is refused.
+/// Returns the words of a line of a plan without its comment; None if it is no text, or memory is
+/// refused.
 pub fn plan_words<'a>(alloc: Global, line: &'a [u8]) -> Option<Vec<&'a str>> {
     let text = str::from_utf8(without_return(line)).ok()?;
     let (code, _) = split_comment(text);
@@ -33,7 +33,7 @@ fn words_at<'a>(alloc: Global, plan: &'a [u8], line: u64) -> Option<Vec<&'a str>
     plan_words(alloc, text)
 }
 
-/// Returns what is there as faults list it: at most eight, or `nothing`.
+/// Returns alternatives as faults list them: at most eight, or `nothing`.
 fn listed(alloc: Global, there: &str) -> Result<String, AllocError> {
     let mut text = String::new(alloc);
     let mut count: usize = 0;
@@ -56,7 +56,7 @@ fn listed(alloc: Global, there: &str) -> Result<String, AllocError> {
     Ok(text)
 }
 
-/// Returns the message on a name that nothing of the wanted kind has.
+/// Returns the message about an unknown name of a wanted kind.
 fn no_name(
     alloc: Global,
     word: &str,
@@ -68,7 +68,7 @@ fn no_name(
     format!(in alloc; "{shown} is not the name of {wanted}; there are: {there}")
 }
 
-/// Returns the message on a capability that a thread or a space has not.
+/// Returns the message about a capability that a thread or a space does not have.
 fn no_capability(
     alloc: Global,
     holder: &str,
@@ -81,8 +81,8 @@ fn no_capability(
     format!(in alloc; "{holder} has no capability {shown}; it has: {there}")
 }
 
-/// Returns the place of the word of an entry in a line: behind the word that ends with a colon, or
-/// the first.
+/// Returns the index of the entry's word in a line: after the word that ends with a colon, or the
+/// first.
 fn entry_place(words: &[&str]) -> usize {
     match words.iter().position(|word| word.ends_with(":")) {
         Some(place) => place.saturating_add(1),
@@ -97,7 +97,7 @@ struct Lack {
     what: &'static str,
 }
 
-/// Returns what the entry of a line lacks, if it has one that does.
+/// Returns what the entry of a line lacks, if anything.
 fn lack_of(words: &[&str]) -> Option<Lack> {
     let (key, given) = words.get(entry_place(words)..)?.split_first()?;
     let form = form_of(key)?;
@@ -105,7 +105,7 @@ fn lack_of(words: &[&str]) -> Option<Lack> {
     Some(Lack { form, what })
 }
 
-/// Returns the message on a line that ends too soon.
+/// Returns the message about a line that ends too soon.
 fn missing(
     alloc: Global,
     words: Option<Vec<&str>>,
@@ -121,8 +121,8 @@ fn missing(
     }
 }
 
-/// Returns the word that was meant by one that is none: an entry of a plan, or where none is
-/// wanted the first word of one of its other lines.
+/// Returns the word that a misspelled one is near to: an entry of a plan, or else the first word of
+/// another line.
 fn meant(word: &str, is_entry: bool) -> Option<&'static str> {
     let key = str::from_utf8(meant_by(word.as_bytes())?).ok()?;
     if form_of(key).is_some() == is_entry && key != "slot" {
@@ -132,7 +132,7 @@ fn meant(word: &str, is_entry: bool) -> Option<&'static str> {
     }
 }
 
-/// Returns the message on a word that begins no line.
+/// Returns the message about a word that begins no line.
 fn unknown(alloc: Global, word: &str) -> Result<String, AllocError> {
     let shown = Shown { text: word };
     match meant(word, false) {
@@ -141,7 +141,7 @@ fn unknown(alloc: Global, word: &str) -> Result<String, AllocError> {
     }
 }
 
-/// Returns the message on a word that is not what is wanted.
+/// Returns the message about a word that is not what is wanted.
 fn not_wanted(alloc: Global, word: &str, wanted: &'static str) -> Result<String, AllocError> {
     let shown = Shown { text: word };
     if wanted == "an entry"
@@ -159,7 +159,7 @@ struct First {
     kind: &'static str,
 }
 
-/// Returns where a plan gives a name before a line, if it does.
+/// Returns where a plan gave a name before a line, if it did.
 fn first_of(alloc: Global, plan: &[u8], before: u64, name: &str) -> Option<First> {
     let mut read = Plan::new(alloc);
     let mut line: u64 = 0;
@@ -178,7 +178,7 @@ fn first_of(alloc: Global, plan: &[u8], before: u64, name: &str) -> Option<First
     None
 }
 
-/// Returns whether a line names slots of a space, and no objects.
+/// Returns whether a line names slots of a space, not objects.
 fn names_slots(words: Option<Vec<&str>>) -> bool {
     match words {
         Some(words) => words.get(1).is_some_and(|word| *word == "has"),
@@ -186,7 +186,7 @@ fn names_slots(words: Option<Vec<&str>>) -> bool {
     }
 }
 
-/// Returns the message on a name that is given again.
+/// Returns the message about a name that is given again.
 fn twice(alloc: Global, plan: &[u8], line: u64, word: &str) -> Result<String, AllocError> {
     let shown = Shown { text: word };
     if !names_slots(words_at(alloc, plan, line))
@@ -197,7 +197,7 @@ fn twice(alloc: Global, plan: &[u8], line: u64, word: &str) -> Result<String, Al
     format!(in alloc; "{shown} is named twice")
 }
 
-/// Returns the message on a line of a plan that is refused.
+/// Returns the message about a refused line of a plan.
 pub fn message_of(alloc: Global, plan: &[u8], fault: &PlanFault) -> Result<String, AllocError> {
     let line = fault.line;
     match &fault.why {

@@ -1,4 +1,4 @@
-//! Reports on the script that a plan became, as reports on the plan: by its lines and its names.
+//! Turns reports on a plan's script into reports on the plan, with its lines and names.
 use crate::numbering::{Form, found_in, number_in};
 use crate::speaking::{Speaker, add_step, add_text, thread_place};
 use mcs_plan_compile::Script;
@@ -6,24 +6,24 @@ use mcs_plan_source::{split_comment, split_words};
 use std::alloc::{AllocError, Global};
 use std::str;
 
-/// A plan, and the script that it became.
+/// A plan, and its script.
 #[derive(Drop)]
-pub struct Retold<'a> {
+pub(crate) struct Retold<'a> {
     script: &'a Script,
-    /// The lines of the script, and the number of the plan's line of which each came.
+    /// The lines of the script, and for each the number of the plan's line from which it came.
     steps: Vec<&'a [u8]>,
     numbers: &'a [u64],
     /// The lines of the plan.
     lines: Vec<&'a [u8]>,
 }
 
-/// Returns the line of this number, from 1; an empty one where there is none.
+/// Returns the line of this number, from 1; an empty one if there is none.
 fn line_at<'a>(lines: &[&'a [u8]], number: u64) -> &'a [u8] {
     let place = number.saturating_sub(1) as usize;
     lines.get(place).copied().unwrap_or(b"".as_slice())
 }
 
-/// Returns what a line of a plan wants of a step, without its sign and its comment.
+/// Returns what a line of a plan expects of a step, without its sign and its comment.
 fn wanted_of(line: &[u8]) -> Option<&str> {
     let (code, _) = split_comment(str::from_utf8(line).ok()?);
     code.trim().strip_prefix("?")
@@ -82,7 +82,7 @@ fn row_in(line: &str) -> Option<Row<'_>> {
     })
 }
 
-/// Returns the place of the thread with which a line begins, behind blanks.
+/// Returns the index of the thread with which a line begins, after blanks.
 fn thread_of(line: &str) -> Option<usize> {
     let word = line.trim_start().split(' ').next()?;
     thread_place(word.as_bytes())
@@ -90,7 +90,7 @@ fn thread_of(line: &str) -> Option<usize> {
 
 impl<'a> Retold<'a> {
     /// Returns a plan and its script, by the texts of both.
-    pub fn new(
+    pub(crate) fn new(
         alloc: Global,
         script: &'a Script,
         text: &'a [u8],
@@ -105,7 +105,7 @@ impl<'a> Retold<'a> {
         })
     }
 
-    /// Adds what a verdict is about: what the plan wants of the step.
+    /// Appends what a verdict is about: what the plan expects of the step.
     fn add_wanted(
         &self,
         alloc: Global,
@@ -119,7 +119,7 @@ impl<'a> Retold<'a> {
         }
     }
 
-    /// Adds the report on a step of the script, which begins with the step.
+    /// Appends the report on a step of the script, which begins with the step.
     fn add_report(
         &self,
         alloc: Global,
@@ -137,7 +137,7 @@ impl<'a> Retold<'a> {
         }
     }
 
-    /// Adds what follows the number of a line.
+    /// Appends what follows the number of a line.
     fn add_behind(
         &self,
         alloc: Global,
@@ -153,11 +153,12 @@ impl<'a> Retold<'a> {
         match form {
             Form::Tap => self.add_wanted(alloc, to, line, said),
             Form::Lines => self.add_report(alloc, to, line, said),
-            Form::Json | Form::Orders | Form::State => add_text(alloc, to, self.script, said),
+            Form::Json | Form::NoOrders => to.extend_from_slice(said),
+            Form::Orders | Form::State => add_text(alloc, to, self.script, said),
         }
     }
 
-    /// Adds how an order leaves a user.
+    /// Appends the state of a user at an end.
     fn add_standing(
         &self,
         alloc: Global,
@@ -174,7 +175,7 @@ impl<'a> Retold<'a> {
         add_text(alloc, to, self.script, line.behind.as_bytes())
     }
 
-    /// Adds how an entry was answered.
+    /// Appends the answers of an entry.
     fn add_row(
         &self,
         alloc: Global,
@@ -223,7 +224,7 @@ impl<'a> Retold<'a> {
         add_text(alloc, to, self.script, line)
     }
 
-    /// Adds a line without a number; the last number before it was this one.
+    /// Appends a line without a number; `last` was the last number before it.
     fn add_other(
         &self,
         alloc: Global,
@@ -233,7 +234,7 @@ impl<'a> Retold<'a> {
         line: &[u8],
     ) -> Result<(), AllocError> {
         match form {
-            Form::Json => to.extend_from_slice(line),
+            Form::Json | Form::NoOrders => to.extend_from_slice(line),
             Form::Orders => self.add_of_orders(alloc, to, line),
             Form::Tap if line.starts_with(b"  behind: ") => {
                 to.extend_from_slice(b"  behind: '")?;
@@ -244,7 +245,7 @@ impl<'a> Retold<'a> {
         }
     }
 
-    /// Adds a line of a report, and returns the number of a line that it has, or else the last one.
+    /// Appends a line of a report, and returns its line number, or else the last one.
     fn add_line(
         &self,
         alloc: Global,
@@ -261,16 +262,17 @@ impl<'a> Retold<'a> {
         let number = number_in(self.numbers, found.number);
         let digits = format!(in alloc; "{number}")?;
         to.extend_from_slice(digits.as_bytes())?;
-        if let Form::Json = form {
-            to.extend_from_slice(found.behind)?;
-        } else {
-            self.add_behind(alloc, to, form, found.number, found.behind)?;
-        }
+        self.add_behind(alloc, to, form, found.number, found.behind)?;
         Ok(found.number)
     }
 
     /// Returns a report on the script as one on the plan.
-    pub fn retell(&self, alloc: Global, report: &[u8], form: Form) -> Result<Vec<u8>, AllocError> {
+    pub(crate) fn retell(
+        &self,
+        alloc: Global,
+        report: &[u8],
+        form: Form,
+    ) -> Result<Vec<u8>, AllocError> {
         let mut text = Vec::new(alloc);
         let mut last: u64 = 0;
         for (before, line) in report.split(|byte| *byte == b'\n').enumerate() {

@@ -1,8 +1,8 @@
-//! The forms of the entries of a plan, and what a line lacks of one.
+//! The forms of the entries of a plan, and which operand a line lacks.
 use mcs_plan_source::number;
 
-/// The entries, each with the names of its operands: a word for each, or any number of words for
-/// one that ends in `..`. For SLOT stands a name, or an index and a depth.
+/// The entries, each with the names of its operands: one word each, or any number of words for one
+/// that ends in `..`. SLOT is a name, or an index and a depth.
 pub const ENTRIES: &[&str] = &[
     "send ENDPOINT LABEL WORD..",
     "nbsend ENDPOINT LABEL WORD..",
@@ -31,7 +31,7 @@ pub const ENTRIES: &[&str] = &[
 ];
 
 /// Returns the form of the entry with this word, if there is one.
-pub fn form_of(key: &str) -> Option<&'static str> {
+pub(crate) fn form_of(key: &str) -> Option<&'static str> {
     for &form in ENTRIES {
         if let Some((first, _)) = form.split_once(' ')
             && first == key
@@ -63,7 +63,8 @@ fn name_of(operand: &str) -> Option<&'static str> {
     }
 }
 
-/// Returns how many words an operand has that begins with this one: two for an index and a depth.
+/// Returns how many words an operand takes that begins with this word: two for an index and a
+/// depth.
 fn count_words(operand: &str, word: &str) -> usize {
     if operand == "SLOT" && number(word).is_some() {
         2
@@ -72,9 +73,9 @@ fn count_words(operand: &str, word: &str) -> usize {
     }
 }
 
-/// Returns what an entry of this form lacks, of which these words stand behind its own; None where
-/// it lacks nothing.
-pub fn missing_of(form: &'static str, given: &[&str]) -> Option<&'static str> {
+/// Returns which operand of this form is missing, given the words after the entry's own; None if
+/// none is.
+pub(crate) fn missing_of(form: &'static str, given: &[&str]) -> Option<&'static str> {
     let (_, operands) = form.split_once(' ')?;
     let mut taken: usize = 0;
     for operand in operands.split(' ') {

@@ -1,0 +1,36 @@
+-- What was told of the script of a plan is what is told of the plan.
+use Rattle.std.specs.Prelude.{ℕ, List}
+use Rattle.std.proofs.Common.{inr}
+use Rattle.mcs_plan_words.specs.Alignment.{HasLinesOf}
+use Rattle.mcs_plan_words.specs.Scripts.{IsScriptOfPlan}
+use Rattle.mcs_c.specs.declared.handing.Ending.{Ending}
+use Rattle.mcs_c.specs.Checks.{IsChecked, IsTold}
+use Rattle.mcs_c.specs.Explores.{IsExplored}
+use Rattle.mcs_c.specs.Plans.{IsInPlan, IsPlanChecked, IsPlanExplored, IsPlanTold}
+
+pub script_checked : (script : List ℕ) (ending e : Ending) → IsScriptOfPlan script → IsChecked script ending → IsInPlan ending e → IsPlanChecked e
+script_checked script ending e of_plan checked in_plan = inr (record {
+  script = script;
+  ending = ending;
+  of_plan = of_plan;
+  checked = checked;
+  in_plan = in_plan;
+})
+
+pub script_told : (ending e : Ending) → IsTold ending → IsInPlan ending e → IsPlanTold e
+script_told ending e told in_plan = inr (record {
+  ending = ending;
+  told = told;
+  in_plan = in_plan;
+})
+
+pub script_explored : (script asked : List ℕ) (ending e : Ending) → IsScriptOfPlan script → HasLinesOf script asked → IsExplored asked ending → IsInPlan ending e → IsPlanExplored e
+script_explored script asked ending e of_plan same explored in_plan = inr (record {
+  script = script;
+  asked = asked;
+  ending = ending;
+  of_plan = of_plan;
+  same = same;
+  explored = explored;
+  in_plan = in_plan;
+})
