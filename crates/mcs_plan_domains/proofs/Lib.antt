@@ -1,1 +1,2 @@
+mod Lowerings
 mod Turns

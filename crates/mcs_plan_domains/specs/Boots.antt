@@ -92,11 +92,14 @@ passive_line [] core = None
 passive_line (d ∷ ds) core = cond (d.is_passive && (d.core == core)) (Some d.line) (passive_line ds core)
 
 -- the monitor of a core that has passive domains: its endpoint, and its thread, which receives
+abbrev pub monitor_thread_put : Page → ℕ → ℕ → Page
+monitor_thread_put p core line = ended (number_put (put (number_put (put p (codes "thread microkit.monitor")) core) (codes " prio 255 on core ")) core) line
+
+abbrev pub monitor_input_put : Page → ℕ → ℕ → Page
+monitor_input_put p core line = last_put (number_put (put (number_put (put p (codes "microkit.monitor")) core) (codes " has microkit.ep")) core) (codes ":r") line
+
 abbrev pub monitor_put : Page → ℕ → ℕ → Page
-monitor_put p core line =
-    let q = ended (number_put (put p (codes "endpoint microkit.ep")) core) line in
-    let r = ended (number_put (put (number_put (put q (codes "thread microkit.monitor")) core) (codes " prio 255 on core ")) core) line in
-    last_put (number_put (put (number_put (put r (codes "microkit.monitor")) core) (codes " has microkit.ep")) core) (codes ":r") line
+monitor_put p core line = monitor_input_put (monitor_thread_put (ended (number_put (put p (codes "endpoint microkit.ep")) core) line) core line) core line
 
 abbrev pub monitor_if : Page → ℕ → Option ℕ → Page
 monitor_if p core None = p

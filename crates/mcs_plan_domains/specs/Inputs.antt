@@ -21,20 +21,20 @@ receive_word called = cond called (codes "recv") (codes "wait")
 abbrev pub send_receive_word : Bool → List ℕ
 send_receive_word called = cond called (codes "nbsendrecv ") (codes "nbsendwait ")
 
--- it only receives: `input1: recv fs.ep fs.reply`, or `input1: wait fs.ntfn`
+-- an entry that only receives: `input1: recv fs.ep fs.reply`, or `input1: wait fs.ntfn`
 abbrev pub receive_put : Page → Input → Domain → ℕ → Page
 receive_put p i d line = ended (source_put (put (input_put p i) (receive_word d.is_called)) d) line
 
--- a capability: a name, behind which a channel may stand
+-- a capability: a name, after which a channel may be
 abbrev pub capability_put : Page → List ℕ → Option ℕ → Page
 capability_put p name None = put p name
 capability_put p name (Some channel) = number_put (put p name) channel
 
--- it notifies and receives: `input1: nbsendrecv notify.3 fs.ep fs.reply 0`
+-- an entry that notifies and receives: `input1: nbsendrecv notify.3 fs.ep fs.reply 0`
 abbrev pub send_receive_put : Page → Input → Domain → ℕ → List ℕ → Option ℕ → Page
 send_receive_put p i d line name channel =
     last_put (source_put (capability_put (put (input_put p i) (send_receive_word d.is_called)) name channel) d) (codes " 0") line
 
--- it answers and receives: `input1: replyrecv fs.ep fs.reply 0 $1`
+-- an entry that answers and receives: `input1: replyrecv fs.ep fs.reply 0 $1`
 abbrev pub reply_put : Page → Input → Domain → ℕ → List (Bor (List ℕ)) → Page
 reply_put p i d line words = ended (words_put (source_put (put (input_put p i) (codes "replyrecv")) d) words) line

@@ -32,11 +32,12 @@ head_put p core line =
 abbrev pub tail_put : Page → ℕ → Page
 tail_put p line = last_put (last_put (last_put p (codes "    }") line) (codes "  }") line) (codes "}") line
 
--- it may wait for ever
+-- a line that says that the monitor may wait for ever
 abbrev pub idle_put : Page → ℕ → ℕ → Page
 idle_put p core line = last_put (number_put (put p (codes "#! idle microkit.monitor")) core) (codes " input1") line
 
--- it waits; where a domain has begun, its context goes to its notification; and so on for ever
+-- the monitor's program: it waits; where a domain has begun, its context goes to its notification;
+-- and so on for ever
 abbrev pub program_put : Page → List Domain → ℕ → ℕ → Page
 program_put p ds core line = idle_put (tail_put (arms_put (head_put p core line) core true ds) line) core line
 

@@ -23,7 +23,7 @@ put p text = record { text = p.text ++ text; lines = p.lines }
 unfoldable pub ended : Page → ℕ → Page
 ended p line = record { text = p.text ++ 10 ∷ []; lines = p.lines ++ line ∷ [] }
 
--- another plan behind it
+-- another plan after it
 unfoldable pub joined : Page → Page → Page
 joined p q = record { text = p.text ++ q.text; lines = p.lines ++ q.lines }
 

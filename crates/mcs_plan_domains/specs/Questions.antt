@@ -15,7 +15,7 @@ abbrev pub is_channel : List ℕ → Bool
 is_channel [] = false
 is_channel (b ∷ bs) = nat_le 48 b && nat_le b 57
 
--- what stands before the word that follows this one
+-- what is before the word that follows this one
 abbrev pub behind_other : Before → List ℕ → Before
 behind_other before.In word = cond (is_event word) before.Event before.Word
 behind_other b word = before.Word

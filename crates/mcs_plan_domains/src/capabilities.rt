@@ -1,7 +1,7 @@
-//! The objects and threads of a system, and what each domain has.
+//! The objects and threads of a system, and each domain's capabilities.
 ghost use Rattle.std.specs.Prelude.{◌≡◌, OnOk};
 ghost use Rattle.mcs_plan_domains.specs.Pages.{page_of};
-ghost use Rattle.mcs_plan_domains.specs.Boots.{begun_put, boot_put, call_put, channel_put, channels_put, each_put, end_put, has_put, inputs_put, monitor_if, monitor_put, monitored_put, monitors_put};
+ghost use Rattle.mcs_plan_domains.specs.Boots.{begun_put, boot_put, call_put, channel_put, channels_put, each_put, end_put, has_put, inputs_put, monitor_if, monitor_input_put, monitor_put, monitor_thread_put, monitored_put, monitors_put};
 ghost use Rattle.mcs_plan_domains.specs.Boots.{notify_put, object_put, objects_put, own_put, passive_line, passive_put, thread_put, tie_put, tied_put};
 
 use crate::badges::{called_badge, notified_badge};
@@ -13,7 +13,7 @@ use std::alloc::AllocError;
 /// How many cores there may be.
 pub const CORES: u64 = 16;
 
-/// Puts an object of a domain.
+/// Appends the line of an object of a domain.
 fn put_object(
     out: &mut Lowered,
     kind: &str,
@@ -23,12 +23,10 @@ fn put_object(
     ensures { OnOk result
         (page_of out.new ≡ object_put (page_of out.old) kind.now domain.now ending.now) }
 {
-    out.put(kind)?;
-    out.put(domain.name)?;
-    out.last(domain.line, ending)
+    out.last_name(domain.line, kind, domain.name, ending)
 }
 
-/// Puts the objects of a domain.
+/// Appends the lines of the objects of a domain.
 fn put_objects(out: &mut Lowered, domain: &Domain<'_>) -> Result<(), AllocError>
     ensures { OnOk result (page_of out.new ≡ objects_put (page_of out.old) domain.now) }
 {
@@ -40,31 +38,26 @@ fn put_objects(out: &mut Lowered, domain: &Domain<'_>) -> Result<(), AllocError>
     put_object(out, "reply ", domain, ".reply")
 }
 
-/// Puts the thread of a domain.
+/// Appends the line of a domain's thread.
 fn put_thread(out: &mut Lowered, domain: &Domain<'_>) -> Result<(), AllocError>
     ensures { OnOk result (page_of out.new ≡ thread_put (page_of out.old) domain.now) }
 {
     out.put("thread ")?;
     out.put(domain.name)?;
-    out.put(" prio ")?;
-    out.number(domain.priority)?;
-    out.put(" on core ")?;
-    out.number(domain.core)?;
-    out.end(domain.line)
+    out.counted(" prio ", domain.priority)?;
+    out.last_number(domain.line, " on core ", domain.core)
 }
 
-/// Puts that the notification of a domain is bound to its thread.
+/// Appends the line that binds the notification of a domain to its thread.
 fn put_tie(out: &mut Lowered, domain: &Domain<'_>) -> Result<(), AllocError>
     ensures { OnOk result (page_of out.new ≡ tie_put (page_of out.old) domain.now) }
 {
     out.put("tie ")?;
     out.put(domain.name)?;
-    out.put(" ")?;
-    out.put(domain.name)?;
-    out.last(domain.line, ".ntfn")
+    out.last_name(domain.line, " ", domain.name, ".ntfn")
 }
 
-/// Puts the thread of a domain, to which its notification is bound.
+/// Appends the lines of a domain's thread and of its bound notification.
 fn put_tied(out: &mut Lowered, domain: &Domain<'_>) -> Result<(), AllocError>
     ensures { OnOk result (page_of out.new ≡ tied_put (page_of out.old) domain.now) }
 {
@@ -72,7 +65,8 @@ fn put_tied(out: &mut Lowered, domain: &Domain<'_>) -> Result<(), AllocError>
     put_tie(out, domain)
 }
 
-/// Puts the beginning of a line of what a domain has: its name, and the name of an object.
+/// Appends the beginning of a line of capabilities of a domain: its name, and the name of an
+/// object.
 fn put_has(
     out: &mut Lowered,
     domain: &Domain<'_>,
@@ -88,7 +82,8 @@ fn put_has(
     out.put(ending)
 }
 
-/// Puts with what a domain receives: its endpoint and its reply object, or its notification.
+/// Appends the capabilities with which a domain receives: to its endpoint and its reply object, or
+/// to its notification.
 fn put_inputs(out: &mut Lowered, domain: &Domain<'_>) -> Result<(), AllocError>
     ensures { OnOk result (page_of out.new ≡ inputs_put (page_of out.old) domain.now) }
 {
@@ -102,7 +97,7 @@ fn put_inputs(out: &mut Lowered, domain: &Domain<'_>) -> Result<(), AllocError>
     out.end(domain.line)
 }
 
-/// Puts what a domain has to notify another over a channel.
+/// Appends a domain's capability to notify another over a channel.
 fn put_notify(
     out: &mut Lowered,
     domain: &Domain<'_>,
@@ -116,12 +111,10 @@ fn put_notify(
 {
     put_has(out, domain, there.name, ".ntfn:w=")?;
     out.hex(notified_badge(other.channel))?;
-    out.put(" as notify.")?;
-    out.number(own.channel)?;
-    out.end(line)
+    out.last_number(line, " as notify.", own.channel)
 }
 
-/// Puts what a domain has to call another over a channel.
+/// Appends a domain's capability to call another over a channel.
 fn put_call(
     out: &mut Lowered,
     domain: &Domain<'_>,
@@ -135,12 +128,10 @@ fn put_call(
 {
     put_has(out, domain, there.name, ".ep:wp=")?;
     out.hex(called_badge(other.channel))?;
-    out.put(" as ppcall.")?;
-    out.number(own.channel)?;
-    out.end(line)
+    out.last_number(line, " as ppcall.", own.channel)
 }
 
-/// Puts what a domain has at an end of a channel, over which it may call or not.
+/// Appends a domain's capabilities at an end of a channel, over which it may call or not.
 fn put_end(
     out: &mut Lowered,
     system: &System<'_>,
@@ -165,8 +156,8 @@ fn put_end(
     put_call(out, domain, own, line, there, other)
 }
 
-/// Puts what both domains of a channel have: the first may call the second, if the channel has
-/// protected procedures.
+/// Appends the capabilities of both domains of a channel: the first may call the second, if the
+/// channel has protected procedures.
 fn put_channel(out: &mut Lowered, system: &System<'_>, channel: &Channel) -> Result<(), AllocError>
     ensures { OnOk result
         (page_of out.new ≡ channel_put (page_of out.old) system.now channel.now) }
@@ -176,32 +167,28 @@ fn put_channel(out: &mut Lowered, system: &System<'_>, channel: &Channel) -> Res
     put_end(out, system, false, line, second, first)
 }
 
-/// Puts how a passive domain tells the monitor of its core that it has begun, with its number as
-/// badge.
+/// Appends the capability by which a passive domain tells the monitor of its core that it has
+/// begun, with its number as badge.
 fn put_begun(out: &mut Lowered, domain: &Domain<'_>) -> Result<(), AllocError>
     ensures { OnOk result (page_of out.new ≡ begun_put (page_of out.old) domain.now) }
 {
     put_has(out, domain, "microkit.ep", "")?;
     out.number(domain.core)?;
-    out.put(":w=")?;
-    out.number(domain.number)?;
+    out.counted(":w=", domain.number)?;
     out.last(domain.line, " as microkit.monitor")
 }
 
-/// Puts what the monitor of a core has of a passive domain.
+/// Appends a capability of a core's monitor to an object of a passive domain.
 fn put_monitored(out: &mut Lowered, domain: &Domain<'_>, ending: &str) -> Result<(), AllocError>
     ensures { OnOk result
         (page_of out.new ≡ monitored_put (page_of out.old) domain.now ending.now) }
 {
-    out.put("microkit.monitor")?;
-    out.number(domain.core)?;
-    out.put(" has ")?;
-    out.put(domain.name)?;
-    out.last(domain.line, ending)
+    out.counted("microkit.monitor", domain.core)?;
+    out.last_name(domain.line, " has ", domain.name, ending)
 }
 
-/// Puts how a passive domain tells the monitor, and what the monitor takes from it and gives to its
-/// notification.
+/// Appends the capabilities by which a passive domain reports to the monitor, and by which the
+/// monitor moves its context to its notification.
 fn put_passive(out: &mut Lowered, domain: &Domain<'_>) -> Result<(), AllocError>
     ensures { OnOk result (page_of out.new ≡ passive_put (page_of out.old) domain.now) }
 {
@@ -210,7 +197,7 @@ fn put_passive(out: &mut Lowered, domain: &Domain<'_>) -> Result<(), AllocError>
     put_monitored(out, domain, ".ntfn")
 }
 
-/// Puts the capabilities of a domain that no channel gives.
+/// Appends the capabilities of a domain that come from no channel.
 fn put_own(out: &mut Lowered, domain: &Domain<'_>) -> Result<(), AllocError>
     ensures { OnOk result (page_of out.new ≡ own_put (page_of out.old) domain.now) }
 {
@@ -233,26 +220,34 @@ pub fn passive_line(domains: &[Domain<'_>], core: u64) -> Option<u64>
     None
 }
 
+/// Puts the thread of a monitor.
+fn put_monitor_thread(out: &mut Lowered, core: u64, line: u64) -> Result<(), AllocError>
+    ensures { OnOk result (page_of out.new ≡ monitor_thread_put (page_of out.old) core line) }
+{
+    out.counted("thread microkit.monitor", core)?;
+    out.last_number(line, " prio 255 on core ", core)
+}
+
+/// Puts with what a monitor receives.
+fn put_monitor_input(out: &mut Lowered, core: u64, line: u64) -> Result<(), AllocError>
+    ensures { OnOk result (page_of out.new ≡ monitor_input_put (page_of out.old) core line) }
+{
+    out.counted("microkit.monitor", core)?;
+    out.counted(" has microkit.ep", core)?;
+    out.last(line, ":r")
+}
+
 /// Puts the endpoint and the thread of a monitor, by which domains of a core become passive.
 fn put_monitor(out: &mut Lowered, core: u64, line: u64) -> Result<(), AllocError>
     ensures { OnOk result (page_of out.new ≡ monitor_put (page_of out.old) core line) }
 {
-    out.put("endpoint microkit.ep")?;
-    out.number(core)?;
-    out.end(line)?;
-    out.put("thread microkit.monitor")?;
-    out.number(core)?;
-    out.put(" prio 255 on core ")?;
-    out.number(core)?;
-    out.end(line)?;
-    out.put("microkit.monitor")?;
-    out.number(core)?;
-    out.put(" has microkit.ep")?;
-    out.number(core)?;
-    out.last(line, ":r")
+    out.last_number(line, "endpoint microkit.ep", core)?;
+    put_monitor_thread(out, core, line)?;
+    put_monitor_input(out, core, line)
 }
 
-/// Puts the monitor of a core, if it has a passive domain, in whose line it stands.
+/// Appends the monitor of a core, if the core has a passive domain; its lines come from that
+/// domain's line.
 fn put_monitor_if(out: &mut Lowered, core: u64, line: Option<u64>) -> Result<(), AllocError>
     ensures { OnOk result (page_of out.new ≡ monitor_if (page_of out.old) core line) }
 {
@@ -262,7 +257,7 @@ fn put_monitor_if(out: &mut Lowered, core: u64, line: Option<u64>) -> Result<(),
     }
 }
 
-/// Puts the monitors of all cores.
+/// Appends the monitors of all cores.
 #[tactic(auto, using(crate::proofs::Turns::monitor_turn))]
 fn put_monitors(out: &mut Lowered, domains: &[Domain<'_>]) -> Result<(), AllocError>
     ensures { OnOk result (page_of out.new ≡ monitors_put (page_of out.old) domains.now CORES) }
@@ -273,7 +268,7 @@ fn put_monitors(out: &mut Lowered, domains: &[Domain<'_>]) -> Result<(), AllocEr
     Ok(())
 }
 
-/// Puts the objects of all domains.
+/// Appends the objects of all domains.
 fn put_all_objects(out: &mut Lowered, domains: &[Domain<'_>]) -> Result<(), AllocError>
     ensures { OnOk result
         (page_of out.new ≡ each_put objects_put (page_of out.old) domains.now) }
@@ -284,7 +279,7 @@ fn put_all_objects(out: &mut Lowered, domains: &[Domain<'_>]) -> Result<(), Allo
     Ok(())
 }
 
-/// Puts the threads of all domains.
+/// Appends the threads of all domains.
 fn put_all_threads(out: &mut Lowered, domains: &[Domain<'_>]) -> Result<(), AllocError>
     ensures { OnOk result (page_of out.new ≡ each_put tied_put (page_of out.old) domains.now) }
 {
@@ -294,7 +289,7 @@ fn put_all_threads(out: &mut Lowered, domains: &[Domain<'_>]) -> Result<(), Allo
     Ok(())
 }
 
-/// Puts the capabilities of all domains that no channel gives.
+/// Appends the capabilities of all domains that come from no channel.
 fn put_all_own(out: &mut Lowered, domains: &[Domain<'_>]) -> Result<(), AllocError>
     ensures { OnOk result (page_of out.new ≡ each_put own_put (page_of out.old) domains.now) }
 {
@@ -304,7 +299,7 @@ fn put_all_own(out: &mut Lowered, domains: &[Domain<'_>]) -> Result<(), AllocErr
     Ok(())
 }
 
-/// Puts what all channels give.
+/// Appends the capabilities that come from channels.
 fn put_channels(out: &mut Lowered, system: &System<'_>) -> Result<(), AllocError>
     ensures { OnOk result (page_of out.new
         ≡ channels_put (page_of out.old) system.now system.now.channels.items) }
@@ -315,7 +310,7 @@ fn put_channels(out: &mut Lowered, system: &System<'_>) -> Result<(), AllocError
     Ok(())
 }
 
-/// Puts all objects and threads of a system, and what each thread has.
+/// Appends all objects and threads of a system, and the capabilities of each thread.
 pub fn put_boot(out: &mut Lowered, system: &System<'_>) -> Result<(), AllocError>
     ensures { OnOk result (page_of out.new ≡ boot_put (page_of out.old) system.now) }
 {

@@ -4,7 +4,7 @@ ghost use Rattle.std.specs.Prelude.{◌≤◌, IfOk};
 use mcs_plan_source::{Why, not, number};
 use std::alloc::Global;
 
-/// The words of a statement, of which some were taken.
+/// The words of a statement, and how many of them were taken.
 #[derive(Drop)]
 pub struct Cursor<'a> {
     alloc: Global,
@@ -13,7 +13,7 @@ pub struct Cursor<'a> {
 }
 
 impl<'a> Cursor<'a> {
-    /// Returns all words behind the first ones, so many.
+    /// Returns the words of a statement after the first `taken`.
     pub fn new(alloc: Global, words: &'a [&'a str], taken: usize) -> Cursor<'a> {
         Cursor {
             alloc,
@@ -22,7 +22,7 @@ impl<'a> Cursor<'a> {
         }
     }
 
-    /// Returns the next word, which is left.
+    /// Returns the next word without taking it.
     pub fn peek(&self) -> Option<&'a str> {
         self.words.get(self.taken).copied()
     }
@@ -32,7 +32,7 @@ impl<'a> Cursor<'a> {
         self.words.get(self.taken..).unwrap_or(&[])
     }
 
-    /// Takes a word. Missing where none is left.
+    /// Takes a word. `Missing` if none is left.
     pub fn need(&mut self, wanted: &'static str) -> Result<&'a str, Why> {
         let Some(word) = self.peek() else {
             return Err(Why::Missing { wanted });
@@ -43,14 +43,16 @@ impl<'a> Cursor<'a> {
 
     /// Takes this word, if it is the next, and returns whether it was.
     pub fn takes(&mut self, wanted: &str) -> bool {
-        let is_next = self.peek().is_some_and(|word| word == wanted);
-        if is_next {
-            self.taken = self.taken.saturating_add(1);
+        match self.peek() {
+            Some(word) if word == wanted => {
+                self.taken = self.taken.saturating_add(1);
+                true
+            }
+            _ => false,
         }
-        is_next
     }
 
-    /// Takes this word. Missing where none is left, Not for another.
+    /// Takes this word. `Missing` if none is left, `Not` for another word.
     pub fn expect(&mut self, wanted: &'static str) -> Result<(), Why> {
         let word = self.need(wanted)?;
         if word == wanted {
@@ -60,7 +62,7 @@ impl<'a> Cursor<'a> {
         }
     }
 
-    /// Takes a number up to a limit. Missing where no word is left, Not where it is none.
+    /// Takes a number up to a limit. `Missing` if no word is left, `Not` if the word is none.
     pub fn number(&mut self, wanted: &'static str, limit: u64) -> Result<u64, Why>
         ensures { IfOk result (λ n. n ≤ limit) }
     {
@@ -71,7 +73,7 @@ impl<'a> Cursor<'a> {
         }
     }
 
-    /// Fails with TooMany where a word is left.
+    /// Fails with `TooMany` if a word is left.
     pub fn end(&self) -> Result<(), Why> {
         match self.peek() {
             None => Ok(()),

@@ -1,7 +1,7 @@
 //! The ends of channels.
 ghost use Rattle.std.specs.Prelude.{◌≤◌};
 
-/// An end of a channel: the place of a domain, and the channel's number there, at most 62.
+/// An end of a channel: the index of a domain, and the channel's number there, at most 62.
 #[derive(Clone, Copy, PartialEq, Eq)]
 pub struct End {
     pub domain: usize,

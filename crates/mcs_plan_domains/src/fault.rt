@@ -1,9 +1,8 @@
-//! Why no program comes of a domain.
+//! Why a domain cannot be lowered.
 use mcs_plan_source::{PlanFault, Why};
 use std::alloc::AllocError;
 
-/// Why a statement is refused, and in which line of the plan it stands; line 0 where memory was
-/// refused.
+/// Why a statement is refused, and its line of the plan; line 0 if an allocation failed.
 #[derive(Drop)]
 pub struct Refused {
     pub line: u64,

@@ -1,4 +1,4 @@
-//! The statements of handlers, as those of programs.
+//! Lowers the statements of handlers to those of programs.
 use crate::badges::CHANNEL_MAX;
 use crate::cursor::Cursor;
 use crate::ends::End;
@@ -7,22 +7,23 @@ use crate::lowered::Lowered;
 use crate::reading::told;
 use crate::statements::Statement;
 use crate::system::{Channel, Domain, Event, System};
+use crate::words::has;
 use mcs_plan_source::{Shown, Why, not};
 use std::alloc::{AllocError, Global};
 
-/// A block that is open in a handler.
+/// An open block of a handler.
 #[derive(Clone, Copy)]
 struct Block {
     is_loop: bool,
     is_if: bool,
     has_else: bool,
-    /// Whether the arms of the `if` before this one leave the handler.
+    /// Whether all earlier arms of the `if` leave the handler.
     arms_end: bool,
     /// Whether the last statement leaves the handler or the loop.
     is_ended: bool,
 }
 
-/// The block that a handler is.
+/// The outermost block of a handler.
 const HANDLER: Block = Block {
     is_loop: false,
     is_if: false,
@@ -31,7 +32,7 @@ const HANDLER: Block = Block {
     is_ended: false,
 };
 
-/// A domain whose handlers become statements of its program.
+/// The translation of a domain's handlers to statements of its program.
 #[derive(Drop)]
 pub struct Lowerer<'s, 'a> {
     alloc: Global,
@@ -42,18 +43,18 @@ pub struct Lowerer<'s, 'a> {
     event: Event,
     pub depth: usize,
     blocks: Vec<Block>,
-    /// How many entries receive, so far: each has a name, `input1` and so on.
+    /// How many entries receive so far: they are named `input1` and so on.
     pub inputs: u64,
 }
 
-/// Returns whether a word is the name of what follows it.
+/// Returns whether a word names what follows it.
 fn is_label(word: &str) -> bool {
     word.ends_with(":")
 }
 
-/// Returns whether one of the first two words is this.
+/// Returns whether one of the first two words of a statement is this one.
 fn begins(statement: &Statement<'_>, wanted: &str) -> bool {
-    statement.words.iter().take(2).any(|word| *word == wanted)
+    has(statement.words.get(..2).unwrap_or(&statement.words), wanted)
 }
 
 /// Returns whether a statement begins a loop.
@@ -68,7 +69,7 @@ fn misplaced(alloc: Global, word: &str, why: &'static str) -> Why {
 }
 
 impl<'s, 'a> Lowerer<'s, 'a> {
-    /// Returns one for the domain in a place, if there is one.
+    /// Returns the translation for the domain at an index, if it exists.
     pub fn new(alloc: Global, system: &'s System<'a>, place: usize) -> Option<Lowerer<'s, 'a>> {
         let domain = system.domains.get(place)?;
         Some(Lowerer {
@@ -84,7 +85,7 @@ impl<'s, 'a> Lowerer<'s, 'a> {
         })
     }
 
-    /// Returns where the next entry stands that receives.
+    /// Returns the name and the depth of the next entry that receives.
     fn next_input(&mut self) -> Input {
         self.inputs = self.inputs.saturating_add(1);
         Input {
@@ -93,13 +94,13 @@ impl<'s, 'a> Lowerer<'s, 'a> {
         }
     }
 
-    /// Puts an entry that only receives.
+    /// Appends an entry that only receives.
     pub fn put_receive(&mut self, out: &mut Lowered, line: u64) -> Result<(), AllocError> {
         let input = self.next_input();
         put_receive(out, input, self.domain, line)
     }
 
-    /// Puts an entry that notifies with this capability, and receives.
+    /// Appends an entry that notifies with this capability, and receives.
     pub fn put_send_receive(
         &mut self,
         out: &mut Lowered,
@@ -111,7 +112,7 @@ impl<'s, 'a> Lowerer<'s, 'a> {
         put_send_receive(out, input, self.domain, line, capability, channel)
     }
 
-    /// Puts an entry that answers with these words, and receives.
+    /// Appends an entry that replies with these words, and receives.
     pub fn put_reply(
         &mut self,
         out: &mut Lowered,
@@ -132,10 +133,13 @@ impl<'s, 'a> Lowerer<'s, 'a> {
 
     /// Returns whether the statements so far leave the handler.
     pub fn is_ended(&self) -> bool {
-        self.blocks.last().is_some_and(|block| block.is_ended)
+        match self.blocks.last() {
+            Some(block) => block.is_ended,
+            None => false,
+        }
     }
 
-    /// Says whether the last statement of the block that is open leaves it.
+    /// Notes whether the last statement of the open block leaves it.
     fn note_end(&mut self, is_ended: bool) {
         if let Some(block) = self.blocks.last_mut() {
             block.is_ended = is_ended;
@@ -144,7 +148,12 @@ impl<'s, 'a> Lowerer<'s, 'a> {
 
     /// Returns whether a loop of the handler is open.
     fn is_in_loop(&self) -> bool {
-        self.blocks.iter().any(|block| block.is_loop)
+        for block in &self.blocks {
+            if block.is_loop {
+                return true;
+            }
+        }
+        false
     }
 
     /// Returns whether a block of the handler is open.
@@ -153,18 +162,8 @@ impl<'s, 'a> Lowerer<'s, 'a> {
     }
 
     /// Opens a block, which may be the next arm of an `if`.
-    fn open(&mut self, statement: &Statement<'_>, before: Option<Block>) -> Result<(), Why> {
-        let arms_end = match before {
-            Some(block) => block.arms_end && block.is_ended,
-            None => true,
-        };
-        self.blocks.push(Block {
-            is_loop: is_loop(statement),
-            is_if: begins(statement, "if") || before.is_some(),
-            has_else: before.is_some() && !statement.words.iter().any(|word| *word == "if"),
-            arms_end,
-            is_ended: false,
-        })?;
+    fn open(&mut self, statement: &Statement<'_>, before: Option<Block>) -> Result<(), AllocError> {
+        self.blocks.push(block_of(statement, before))?;
         self.depth = self.depth.saturating_add(1);
         Ok(())
     }
@@ -175,7 +174,7 @@ impl<'s, 'a> Lowerer<'s, 'a> {
         self.blocks.pop()
     }
 
-    /// Puts a statement as it is.
+    /// Appends a statement unchanged.
     fn put_words(&self, out: &mut Lowered, statement: &Statement<'_>) -> Result<(), AllocError> {
         let mut between = "";
         out.indent(self.depth)?;
@@ -188,7 +187,11 @@ impl<'s, 'a> Lowerer<'s, 'a> {
     }
 
     /// Puts a statement that opens or closes a block.
-    fn put_block(&mut self, out: &mut Lowered, statement: &Statement<'_>) -> Result<(), Why> {
+    fn put_block(
+        &mut self,
+        out: &mut Lowered,
+        statement: &Statement<'_>,
+    ) -> Result<(), AllocError> {
         if !statement.closes() {
             self.put_words(out, statement)?;
             return self.open(statement, None);
@@ -198,11 +201,14 @@ impl<'s, 'a> Lowerer<'s, 'a> {
         if statement.opens() {
             return self.open(statement, closed);
         }
-        self.note_end(closed.is_some_and(|block| is_left_by(block)));
+        self.note_end(match closed {
+            Some(block) => is_left_by(block),
+            None => false,
+        });
         Ok(())
     }
 
-    /// Returns the channel of a number. A fault where the domain has none.
+    /// Returns the channel with a number. Fails if the domain has none.
     fn channel(&self, end: End) -> Result<Channel, Why> {
         match self.system.channel(end) {
             Some(channel) => Ok(channel),
@@ -210,12 +216,22 @@ impl<'s, 'a> Lowerer<'s, 'a> {
         }
     }
 
-    /// Returns the fault of a channel that is not there.
+    /// Returns the fault of a missing channel.
     fn no_channel(&self, number: u64) -> Why {
         let shown = Shown {
             text: self.domain.name,
         };
         told(format!(in self.alloc; "{shown} has no channel {number}"))
+    }
+
+    /// Returns the fault of a channel over which the domain may call nothing.
+    fn no_procedures(&self, number: u64) -> Why {
+        let shown = Shown {
+            text: self.domain.name,
+        };
+        told(format!(in self.alloc;
+            "{shown} has no protected procedures to call over channel {number}"
+        ))
     }
 
     /// Reads the number of a channel that the domain has.
@@ -228,7 +244,7 @@ impl<'s, 'a> Lowerer<'s, 'a> {
         Ok((own, self.channel(own)?))
     }
 
-    /// Puts the beginning of an entry: the name that it has, and what it invokes.
+    /// Appends the beginning of an entry: its name, if it has one, and what it invokes.
     fn put_entry(
         &self,
         out: &mut Lowered,
@@ -237,15 +253,11 @@ impl<'s, 'a> Lowerer<'s, 'a> {
         number: u64,
     ) -> Result<(), AllocError> {
         out.indent(self.depth)?;
-        if let Some(label) = label {
-            out.put(label)?;
-            out.put(" ")?;
-        }
-        out.put(text)?;
-        out.number(number)
+        put_label(out, label)?;
+        out.counted(text, number)
     }
 
-    /// Puts `notify CHANNEL`.
+    /// Appends `notify CHANNEL`.
     fn put_notify(
         &self,
         out: &mut Lowered,
@@ -259,7 +271,7 @@ impl<'s, 'a> Lowerer<'s, 'a> {
         Ok(out.end(line)?)
     }
 
-    /// Puts `ppcall CHANNEL LABEL WORDS`.
+    /// Appends `ppcall CHANNEL LABEL WORDS`.
     fn put_ppcall(
         &self,
         out: &mut Lowered,
@@ -269,20 +281,14 @@ impl<'s, 'a> Lowerer<'s, 'a> {
     ) -> Result<(), Why> {
         let (own, channel) = self.need_channel(words)?;
         if !channel.is_called || channel.first != own {
-            let shown = Shown {
-                text: self.domain.name,
-            };
-            let number = own.channel;
-            return Err(told(format!(in self.alloc;
-                "{shown} has no protected procedures to call over channel {number}"
-            )));
+            return Err(self.no_procedures(own.channel));
         }
         self.put_entry(out, label, "call ppcall.", own.channel)?;
         out.words(words.rest())?;
         Ok(out.end(line)?)
     }
 
-    /// Puts `deferred notify CHANNEL`: the channel is kept until the next entry that receives.
+    /// Appends `deferred notify CHANNEL`: the channel is kept until the next entry that receives.
     fn put_deferred(
         &self,
         out: &mut Lowered,
@@ -296,7 +302,7 @@ impl<'s, 'a> Lowerer<'s, 'a> {
         Ok(out.end(line)?)
     }
 
-    /// Puts `reply LABEL WORDS`, which leaves the handler: the domain answers and receives.
+    /// Appends `reply LABEL WORDS`, which leaves the handler: the domain replies and receives.
     fn put_answer(
         &mut self,
         out: &mut Lowered,
@@ -304,11 +310,8 @@ impl<'s, 'a> Lowerer<'s, 'a> {
         words: &[&str],
         is_last: bool,
     ) -> Result<(), Why> {
-        match self.event {
-            Event::Protected(_) => {}
-            Event::Init | Event::Notified(_) => {
-                return Err(misplaced(self.alloc, "reply", "stands in no protected handler"));
-            }
+        if !answers(self.event) {
+            return Err(misplaced(self.alloc, "reply", "stands in no protected handler"));
         }
         if self.is_in_loop() {
             return Err(misplaced(
@@ -324,29 +327,40 @@ impl<'s, 'a> Lowerer<'s, 'a> {
         Ok(())
     }
 
-    /// Puts a statement that opens and closes no block.
+    /// Appends a statement that neither opens nor closes a block.
     fn put_simple(
         &mut self,
         out: &mut Lowered,
         statement: &Statement<'a>,
         is_last: bool,
     ) -> Result<(), Why> {
-        let line = statement.line;
         let first = statement.first();
         let label = if is_label(first) { Some(first) } else { None };
         let mut words = Cursor::new(self.alloc, &statement.words, usize::from(label.is_some()));
+        self.put_named(out, statement, label, &mut words, is_last)
+    }
+
+    /// Puts such a statement, whose other words are these, with its name.
+    fn put_named(
+        &mut self,
+        out: &mut Lowered,
+        statement: &Statement<'a>,
+        label: Option<&str>,
+        words: &mut Cursor<'_>,
+        is_last: bool,
+    ) -> Result<(), Why> {
         let keyword = words.need("a statement")?;
         self.note_end(is_ending(keyword));
         if keyword == "notify" {
-            return self.put_notify(out, line, label, &mut words);
+            return self.put_notify(out, statement.line, label, words);
         }
         if keyword == "ppcall" {
-            return self.put_ppcall(out, line, label, &mut words);
+            return self.put_ppcall(out, statement.line, label, words);
         }
         self.put_other(out, statement, keyword, label, is_last)
     }
 
-    /// Puts a statement that is no entry of a channel.
+    /// Appends a statement that is not an entry over a channel.
     fn put_other(
         &mut self,
         out: &mut Lowered,
@@ -355,23 +369,35 @@ impl<'s, 'a> Lowerer<'s, 'a> {
         label: Option<&str>,
         is_last: bool,
     ) -> Result<(), Why> {
-        let mut words = Cursor::new(self.alloc, &statement.words, 1);
-        if keyword == "deferred" || keyword == "reply" {
-            if let Some(label) = label {
-                return Err(not(self.alloc, label, "the name of an entry or a block"));
-            }
-            if keyword == "deferred" {
-                return self.put_deferred(out, statement.line, &mut words);
-            }
-            return self.put_answer(out, statement.line, words.rest(), is_last);
+        if keyword != "deferred" && keyword != "reply" {
+            return self.put_kept_words(out, statement, keyword);
         }
-        if (keyword == "break" || keyword == "continue") && !self.is_in_loop() {
+        if let Some(label) = label {
+            return Err(not(self.alloc, label, "the name of an entry or a block"));
+        }
+        let mut words = Cursor::new(self.alloc, &statement.words, 1);
+        if keyword == "deferred" {
+            return self.put_deferred(out, statement.line, &mut words);
+        }
+        self.put_answer(out, statement.line, words.rest(), is_last)
+    }
+
+    /// Puts a statement that begins with this word as it is. A fault where it leaves a loop, and is
+    /// in none.
+    fn put_kept_words(
+        &self,
+        out: &mut Lowered,
+        statement: &Statement<'_>,
+        keyword: &str,
+    ) -> Result<(), Why> {
+        let leaves = keyword == "break" || keyword == "continue";
+        if leaves && !self.is_in_loop() {
             return Err(misplaced(self.alloc, keyword, "stands in no loop of its handler"));
         }
         Ok(self.put_words(out, statement)?)
     }
 
-    /// Puts a statement of a handler, which may be its last.
+    /// Appends a statement of a handler, which may be its last.
     pub fn put_statement(
         &mut self,
         out: &mut Lowered,
@@ -379,14 +405,53 @@ impl<'s, 'a> Lowerer<'s, 'a> {
         is_last: bool,
     ) -> Result<(), Why> {
         if statement.opens() || statement.closes() {
-            self.put_block(out, statement)
-        } else {
-            self.put_simple(out, statement, is_last)
+            return Ok(self.put_block(out, statement)?);
         }
+        self.put_simple(out, statement, is_last)
     }
 }
 
-/// Returns whether what follows a block is never reached.
+/// Puts the name of an entry, if it has one.
+fn put_label(out: &mut Lowered, label: Option<&str>) -> Result<(), AllocError> {
+    match label {
+        Some(label) => {
+            out.put(label)?;
+            out.put(" ")
+        }
+        None => Ok(()),
+    }
+}
+
+/// Returns the block that a statement opens, which may be the next arm of an `if`.
+fn block_of(statement: &Statement<'_>, before: Option<Block>) -> Block {
+    let is_loop = is_loop(statement);
+    match before {
+        Some(block) => Block {
+            is_loop,
+            is_if: true,
+            has_else: !has(&statement.words, "if"),
+            arms_end: block.arms_end && block.is_ended,
+            is_ended: false,
+        },
+        None => Block {
+            is_loop,
+            is_if: begins(statement, "if"),
+            has_else: false,
+            arms_end: true,
+            is_ended: false,
+        },
+    }
+}
+
+/// Returns whether a handler is that of a protected procedure, which answers.
+pub fn answers(event: Event) -> bool {
+    match event {
+        Event::Protected(_) => true,
+        Event::Init | Event::Notified(_) => false,
+    }
+}
+
+/// Returns whether what follows a block is unreachable.
 fn is_left_by(block: Block) -> bool {
     if block.is_loop {
         return false;
@@ -405,15 +470,19 @@ fn is_ending(keyword: &str) -> bool {
 /// Returns whether a statement becomes an entry.
 pub fn is_entry(statement: &Statement<'_>) -> bool {
     let label = usize::from(is_label(statement.first()));
-    let keyword = statement.words.get(label).copied().unwrap_or("");
-    let next = statement
-        .words
-        .get(label.saturating_add(1))
-        .copied()
-        .unwrap_or("");
+    let keyword = statement.word(label);
     if statement.opens() || statement.closes() || is_ending(keyword) {
         return keyword == "reply";
     }
-    let changes = next == "=" || next == "+=" || next == "-=";
-    !(changes || keyword == "let" || keyword == "deferred")
+    !changes(statement.word(label.saturating_add(1))) && !keeps(keyword)
+}
+
+/// Returns whether a word says that the one before it changes.
+fn changes(word: &str) -> bool {
+    word == "=" || word == "+=" || word == "-="
+}
+
+/// Returns whether a statement keeps a word or a channel.
+fn keeps(keyword: &str) -> bool {
+    keyword == "let" || keyword == "deferred"
 }

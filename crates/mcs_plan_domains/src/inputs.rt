@@ -7,7 +7,7 @@ use crate::lowered::Lowered;
 use crate::system::Domain;
 use std::alloc::AllocError;
 
-/// Where an entry that receives stands: in so many blocks, with this number among those of its
+/// The position of an entry that receives: its depth in blocks, and its number among those of its
 /// domain.
 #[derive(Clone, Copy)]
 pub struct Input {
@@ -15,14 +15,14 @@ pub struct Input {
     pub number: u64,
 }
 
-/// Returns the word of the entry that receives.
+/// Returns the word of an entry that receives.
 fn receive_word(is_called: bool) -> &'static str
     ensures { result.now ≡ receive_word is_called }
 {
     if is_called { "recv" } else { "wait" }
 }
 
-/// Returns the word of the entry that notifies and receives.
+/// Returns the word of an entry that notifies and receives.
 fn send_receive_word(is_called: bool) -> &'static str
     ensures { result.now ≡ send_receive_word is_called }
 {
@@ -33,17 +33,16 @@ fn send_receive_word(is_called: bool) -> &'static str
     }
 }
 
-/// Puts the name of an entry that receives.
+/// Appends the name of an entry that receives.
 fn put_input(out: &mut Lowered, input: Input) -> Result<(), AllocError>
     ensures { OnOk result (page_of out.new ≡ input_put (page_of out.old) input) }
 {
     out.indent(input.depth)?;
-    out.put("input")?;
-    out.number(input.number)?;
+    out.counted("input", input.number)?;
     out.put(": ")
 }
 
-/// Puts from where a domain receives: its endpoint with its reply object, or its notification.
+/// Appends what a domain receives from: its endpoint with its reply object, or its notification.
 fn put_source(out: &mut Lowered, domain: &Domain<'_>) -> Result<(), AllocError>
     ensures { OnOk result (page_of out.new ≡ source_put (page_of out.old) domain.now) }
 {
@@ -57,7 +56,7 @@ fn put_source(out: &mut Lowered, domain: &Domain<'_>) -> Result<(), AllocError>
     out.put(".reply")
 }
 
-/// Puts an entry that only receives.
+/// Appends an entry that only receives.
 pub fn put_receive(
     out: &mut Lowered,
     input: Input,
@@ -73,7 +72,7 @@ pub fn put_receive(
     out.end(line)
 }
 
-/// Puts a capability of a domain: a name, behind which a channel may stand.
+/// Appends the name of a capability of a domain, with its channel if it has one.
 fn put_capability(
     out: &mut Lowered,
     capability: &str,
@@ -89,7 +88,7 @@ fn put_capability(
     }
 }
 
-/// Puts an entry that notifies with a capability, and receives.
+/// Appends an entry that notifies with a capability, and receives.
 pub fn put_send_receive(
     out: &mut Lowered,
     input: Input,
@@ -108,7 +107,7 @@ pub fn put_send_receive(
     out.last(line, " 0")
 }
 
-/// Puts an entry that answers with these words, and receives.
+/// Appends an entry that replies with these words, and receives.
 pub fn put_reply(
     out: &mut Lowered,
     input: Input,

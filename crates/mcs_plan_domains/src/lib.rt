@@ -3,11 +3,11 @@
 //! ```text
 //! a plan ── statements ──> the statements of its lines
 //!     ── reading ──> a `System`: domains with their handlers, channels, and all other lines
-//!     ── capabilities ──> objects, threads, and what each domain has
+//!     ── capabilities ──> objects, threads, and each domain's capabilities
 //!     ── handlers, inputs, programs ──> a program for each domain: the loop of libmicrokit
-//!     ── monitors ──> a program for each monitor; questions ──> what is asked of all orders
-//!     ── lowered ──> the lines of a plan without domains, each with the line it came from
-//!     ── passives ──> passive threads among users, as a thread that makes them so
+//!     ── monitors ──> a program for each monitor; questions ──> the questions to all orders
+//!     ── lowered ──> the lines of a plan without domains, each with its original line
+//!     ── passives ──> passive threads among users, made passive by a further thread
 //! ```
 #![tactic(auto)]
 
@@ -27,6 +27,7 @@ mod questions;
 mod reading;
 mod statements;
 mod system;
+mod words;
 
 pub use badges::{called_badge, notified_badge};
 pub use ends::End;

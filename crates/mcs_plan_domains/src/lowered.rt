@@ -1,12 +1,12 @@
-//! The lines of a plan that are made, and of which line each came.
+//! The lines of a lowered plan, and the line from which each came.
 ghost use Rattle.std.specs.Prelude.{◌≡◌, ◌++◌, ◌∷◌, [], false, OnOk};
 ghost use Rattle.std.specs.Fmt.{digits};
 ghost use Rattle.mcs_plan_domains.specs.Pages.{blank, ended, hex_put, indented, joined, last_put, number_put, page_of, put, words_put};
 
 use std::alloc::{AllocError, Global};
 
-/// A plan without domains, and for each of its lines the line from which it came. What is put into
-/// it fails with AllocError where memory is refused.
+/// A plan without domains, and for each of its lines the line from which it came. Appending fails
+/// with AllocError if an allocation fails.
 #[derive(Drop)]
 pub struct Lowered {
     pub text: String,
@@ -33,7 +33,7 @@ impl Lowered {
         }
     }
 
-    /// Puts a text.
+    /// Appends a text.
     #[tactic(auto, unfolding(crate::specs::Pages::page_of, crate::specs::Pages::put))]
     pub fn put(&mut self, text: &str) -> Result<(), AllocError>
         ensures { OnOk result (page_of self.new ≡ put (page_of self.old) text.now) }
@@ -41,7 +41,7 @@ impl Lowered {
         self.text.push_str(text)
     }
 
-    /// Puts two blanks for each block that is open.
+    /// Appends two blanks for each open block.
     #[tactic(auto, using(crate::proofs::Turns::block_turn))]
     pub fn indent(&mut self, depth: usize) -> Result<(), AllocError>
         ensures { OnOk result (page_of self.new ≡ indented (page_of self.old) depth) }
@@ -52,12 +52,21 @@ impl Lowered {
         Ok(())
     }
 
-    /// Puts a number.
+    /// Appends a number.
     #[tactic(auto, unfolding(crate::specs::Pages::page_of, crate::specs::Pages::put))]
     pub fn number(&mut self, number: u64) -> Result<(), AllocError>
         ensures { OnOk result (page_of self.new ≡ number_put (page_of self.old) number) }
     {
         write!(&mut self.text, "{number}")
+    }
+
+    /// Puts a text and a number.
+    pub fn counted(&mut self, text: &str, number: u64) -> Result<(), AllocError>
+        ensures { OnOk result
+            (page_of self.new ≡ number_put (put (page_of self.old) text.now) number) }
+    {
+        self.put(text)?;
+        self.number(number)
     }
 
     /// Puts the digits of a number in base 16.
@@ -68,7 +77,7 @@ impl Lowered {
         write!(&mut self.text, "{number:x}")
     }
 
-    /// Puts a number in base 16, behind `0x`.
+    /// Appends a number in hexadecimal, after `0x`.
     pub fn hex(&mut self, number: u64) -> Result<(), AllocError>
         ensures { OnOk result (page_of self.new ≡ hex_put (page_of self.old) number) }
     {
@@ -76,7 +85,7 @@ impl Lowered {
         self.digits(number)
     }
 
-    /// Puts words with a blank before each.
+    /// Appends words, with a blank before each.
     pub fn words(&mut self, words: &[&str]) -> Result<(), AllocError>
         ensures { OnOk result (page_of self.new ≡ words_put (page_of self.old) words.now) }
     {
@@ -87,7 +96,7 @@ impl Lowered {
         Ok(())
     }
 
-    /// Ends a line, which came from this one.
+    /// Ends a line that came from line `line`.
     #[tactic(auto, unfolding(crate::specs::Pages::page_of, crate::specs::Pages::ended))]
     pub fn end(&mut self, line: u64) -> Result<(), AllocError>
         ensures { OnOk result (page_of self.new ≡ ended (page_of self.old) line) }
@@ -96,12 +105,37 @@ impl Lowered {
         push_line(&mut self.lines, line)
     }
 
-    /// Puts the last text of a line, which came from this one.
+    /// Appends the last text of a line that came from line `line`.
     pub fn last(&mut self, line: u64, text: &str) -> Result<(), AllocError>
         ensures { OnOk result (page_of self.new ≡ last_put (page_of self.old) text.now line) }
     {
         self.put(text)?;
         self.end(line)
+    }
+
+    /// Puts a text and a number, the last of a line, which came from this one.
+    pub fn last_number(&mut self, line: u64, text: &str, number: u64) -> Result<(), AllocError>
+        ensures { OnOk result (page_of self.new
+            ≡ ended (number_put (put (page_of self.old) text.now) number) line) }
+    {
+        self.counted(text, number)?;
+        self.end(line)
+    }
+
+    /// Puts a name between two texts, the last of a line, which came from this one.
+    pub fn last_name(
+        &mut self,
+        line: u64,
+        before: &str,
+        name: &str,
+        after: &str,
+    ) -> Result<(), AllocError>
+        ensures { OnOk result (page_of self.new
+            ≡ last_put (put (put (page_of self.old) before.now) name.now) after.now line) }
+    {
+        self.put(before)?;
+        self.put(name)?;
+        self.last(line, after)
     }
 
     /// Puts a line, which came from this one, in so many blocks.
@@ -113,7 +147,7 @@ impl Lowered {
         self.last(line, text)
     }
 
-    /// Puts another plan behind it.
+    /// Appends another plan.
     #[tactic(auto, unfolding(crate::specs::Pages::page_of, crate::specs::Pages::joined))]
     pub fn join(&mut self, other: &Lowered) -> Result<(), AllocError>
         ensures { OnOk result (page_of self.new ≡ joined (page_of self.old) (page_of other.now)) }

@@ -8,7 +8,7 @@ use crate::lowered::Lowered;
 use crate::system::Domain;
 use std::alloc::AllocError;
 
-/// Returns how an arm of the program of a monitor begins.
+/// Returns how an arm of a monitor's program begins.
 fn arm_word(is_first: bool) -> &'static str
     ensures { result.now ≡ arm_word is_first }
 {
@@ -19,32 +19,27 @@ fn arm_word(is_first: bool) -> &'static str
     }
 }
 
-/// Puts that the context of a domain is bound to its notification.
+/// Appends the entry that binds the context of a domain to its notification.
 fn put_bound(out: &mut Lowered, domain: &Domain<'_>) -> Result<(), AllocError>
     ensures { OnOk result (page_of out.new ≡ bound_put (page_of out.old) domain.now) }
 {
     out.put("      bind ")?;
     out.put(domain.name)?;
-    out.put(".context ")?;
-    out.put(domain.name)?;
-    out.last(domain.line, ".ntfn")
+    out.last_name(domain.line, ".context ", domain.name, ".ntfn")
 }
 
-/// Puts the arm of a monitor for a passive domain: its context goes from its thread to its
+/// Appends the arm of a monitor for a passive domain: its context moves from its thread to its
 /// notification.
 fn put_unbound(out: &mut Lowered, domain: &Domain<'_>, is_first: bool) -> Result<(), AllocError>
     ensures { OnOk result (page_of out.new ≡ unbound_put (page_of out.old) domain.now is_first) }
 {
-    out.put(arm_word(is_first))?;
-    out.number(domain.number)?;
+    out.counted(arm_word(is_first), domain.number)?;
     out.last(domain.line, " {")?;
-    out.put("      unbind ")?;
-    out.put(domain.name)?;
-    out.last(domain.line, ".context")?;
+    out.last_name(domain.line, "      unbind ", domain.name, ".context")?;
     put_bound(out, domain)
 }
 
-/// Puts the arms of the monitor of a core.
+/// Appends the arms of the monitor of a core.
 fn put_arms(out: &mut Lowered, domains: &[Domain<'_>], core: u64) -> Result<(), AllocError>
     ensures { OnOk result
         (page_of out.new ≡ arms_put (page_of out.old) core true domains.now) }
@@ -59,20 +54,17 @@ fn put_arms(out: &mut Lowered, domains: &[Domain<'_>], core: u64) -> Result<(), 
     Ok(())
 }
 
-/// Puts the beginning of the program of the monitor of a core: it waits.
+/// Appends the beginning of the program of a core's monitor, which waits.
 fn put_head(out: &mut Lowered, core: u64, line: u64) -> Result<(), AllocError>
     ensures { OnOk result (page_of out.new ≡ head_put (page_of out.old) core line) }
 {
-    out.put("program microkit.monitor")?;
-    out.number(core)?;
+    out.counted("program microkit.monitor", core)?;
     out.last(line, " {")?;
     out.last(line, "  forever {")?;
-    out.put("    input1: wait microkit.ep")?;
-    out.number(core)?;
-    out.end(line)
+    out.last_number(line, "    input1: wait microkit.ep", core)
 }
 
-/// Puts the end of that program.
+/// Appends the end of a monitor's program.
 fn put_tail(out: &mut Lowered, line: u64) -> Result<(), AllocError>
     ensures { OnOk result (page_of out.new ≡ tail_put (page_of out.old) line) }
 {
@@ -81,16 +73,16 @@ fn put_tail(out: &mut Lowered, line: u64) -> Result<(), AllocError>
     out.last(line, "}")
 }
 
-/// Puts that the monitor of a core may wait for ever.
+/// Appends the question that lets the monitor of a core wait for ever.
 fn put_idle(out: &mut Lowered, core: u64, line: u64) -> Result<(), AllocError>
     ensures { OnOk result (page_of out.new ≡ idle_put (page_of out.old) core line) }
 {
-    out.put("#! idle microkit.monitor")?;
-    out.number(core)?;
+    out.counted("#! idle microkit.monitor", core)?;
     out.last(line, " input1")
 }
 
-/// Puts the program of the monitor of a core, in the line of the first passive domain there.
+/// Appends the program of the monitor of a core; its lines come from the first passive domain's
+/// line.
 fn put_program(
     out: &mut Lowered,
     domains: &[Domain<'_>],
@@ -106,7 +98,7 @@ fn put_program(
     put_idle(out, core, line)
 }
 
-/// Puts the program of the monitor of a core, if it has a passive domain.
+/// Appends the program of the monitor of a core, if it has a passive domain.
 fn put_program_if(
     out: &mut Lowered,
     domains: &[Domain<'_>],
@@ -122,7 +114,7 @@ fn put_program_if(
     }
 }
 
-/// Puts the programs of the monitors of all cores.
+/// Appends the programs of the monitors of all cores.
 #[tactic(auto, using(crate::proofs::Turns::program_turn))]
 pub fn put_monitor_programs(out: &mut Lowered, domains: &[Domain<'_>]) -> Result<(), AllocError>
     ensures { OnOk result

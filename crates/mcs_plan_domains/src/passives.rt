@@ -1,15 +1,20 @@
 //! Passive threads in a plan of users: one thread more waits until each of them receives, takes its
 //! context away, and only then lets the other users begin.
+ghost use Rattle.std.specs.Prelude.{◌≡◌, IfOk, IfSome, OnOk};
+ghost use Rattle.mcs_plan_domains.specs.Lowered.{IsLowered, IsStarted, entry_put};
+ghost use Rattle.mcs_plan_domains.specs.Pages.{page_of};
+
 use crate::lowered::Lowered;
+use crate::words::{has, is};
 use mcs_plan_source::{PlanFault, STARTER, Why, split_comment, split_words};
 use std::alloc::{AllocError, Global};
 
-/// A passive thread: it receives on an endpoint with a reply object.
+/// A passive thread, which receives on an endpoint with a reply object.
 #[derive(Clone, Copy)]
 struct Passive<'a> {
     name: &'a str,
     line: u64,
-    /// How many are passive before it.
+    /// How many passive threads are before it.
     place: usize,
     endpoint: &'a str,
     reply: &'a str,
@@ -35,11 +40,12 @@ struct Line<'a> {
 struct Threads<'a> {
     passives: Vec<Passive<'a>>,
     runners: Vec<Runner<'a>>,
-    /// Those with lines of a user or a program, by the first of these.
+    /// The threads with lines of a user or a program, in order.
     users: Vec<&'a str>,
 }
 
-/// Returns how a thread is passive, if its line says so, behind so many others.
+/// Returns a thread's declaration as passive, if the line is one; `place` passive threads are
+/// before it.
 fn passive_of<'a>(words: &[&'a str], line: u64, place: usize) -> Option<Passive<'a>> {
     let name = thread_of(words)?;
     let from = words.iter().position(|word| *word == "passive")?;
@@ -66,7 +72,7 @@ fn thread_of<'a>(words: &[&'a str]) -> Option<&'a str> {
     }
 }
 
-/// Returns the thread whose entries a line gives or begins, if it does.
+/// Returns the thread whose entries or program a line gives, if it does.
 fn user_of<'a>(words: &[&'a str]) -> Option<&'a str> {
     match words {
         [first, name, ..] if *first == "program" => Some(*name),
@@ -77,33 +83,44 @@ fn user_of<'a>(words: &[&'a str]) -> Option<&'a str> {
 
 /// Returns whether a line begins a program.
 fn is_program(words: &[&str]) -> bool {
-    words.first().is_some_and(|word| *word == "program")
+    is(words.first(), "program")
 }
 
-/// Returns whether a thread runs from the beginning.
+/// Returns whether a thread's line lets it run from the beginning.
 fn runs(words: &[&str]) -> bool {
-    !words
-        .iter()
-        .any(|word| *word == "stopped" || *word == "without")
+    !has(words, "stopped") && !has(words, "without")
 }
 
 impl<'a> Threads<'a> {
     /// Adds what a line says.
-    fn add(&mut self, line: &Line<'a>) -> Result<(), Why> {
+    fn add(&mut self, line: &Line<'a>) -> Result<(), AllocError> {
+        self.add_thread(line)?;
+        self.add_user(line)
+    }
+
+    /// Adds the thread that a line makes, if it makes one that is passive or runs.
+    fn add_thread(&mut self, line: &Line<'a>) -> Result<(), AllocError> {
         let place = self.passives.len();
         if let Some(passive) = passive_of(&line.words, line.origin, place) {
             self.passives.push(passive)?;
-        } else if let Some(name) = thread_of(&line.words)
-            && runs(&line.words)
-        {
-            self.runners.push(Runner {
-                name,
-                line: line.origin,
-            })?;
+            return Ok(());
         }
-        if let Some(user) = user_of(&line.words)
-            && !self.is_user(user)
-        {
+        let Some(name) = thread_of(&line.words) else {
+            return Ok(());
+        };
+        if runs(&line.words) {
+            let line = line.origin;
+            self.runners.push(Runner { name, line })?;
+        }
+        Ok(())
+    }
+
+    /// Adds the user of a line, if it has one that is new.
+    fn add_user(&mut self, line: &Line<'a>) -> Result<(), AllocError> {
+        let Some(user) = user_of(&line.words) else {
+            return Ok(());
+        };
+        if !self.is_user(user) {
             self.users.push(user)?;
         }
         Ok(())
@@ -111,124 +128,182 @@ impl<'a> Threads<'a> {
 
     /// Returns whether a thread is a user.
     fn is_user(&self, name: &str) -> bool {
-        self.users.iter().any(|user| *user == name)
+        has(&self.users, name)
     }
 
-    /// Returns the passive thread of a name.
+    /// Returns the passive thread with a name.
     fn passive(&self, name: &str) -> Option<Passive<'a>> {
-        self.passives
-            .iter()
-            .find(|passive| passive.name == name)
-            .copied()
+        for passive in &self.passives {
+            if passive.name == name {
+                return Some(*passive);
+            }
+        }
+        None
     }
 
-    /// Returns whether a thread of a name is to begin only when all passive threads wait.
+    /// Returns the line of the first passive thread, if some thread is a user.
+    fn first_passive(&self) -> Option<u64> {
+        if self.users.is_empty() {
+            return None;
+        }
+        match self.passives.first() {
+            Some(passive) => Some(passive.line),
+            None => None,
+        }
+    }
+
+    /// Returns whether the thread with a name must not begin before all passive threads wait.
     fn is_held(&self, name: &str) -> bool {
         self.is_user(name) && self.passive(name).is_none()
     }
 }
 
-/// Puts some words, with the name of a thread among them.
-fn put_named(
-    out: &mut Lowered,
-    line: u64,
-    before: &str,
-    name: &str,
-    after: &str,
-) -> Result<(), AllocError> {
-    out.put(before)?;
-    out.put(name)?;
-    out.last(line, after)
-}
-
 /// Puts the name of the notification by which a passive thread tells that it has begun to receive.
 fn put_ready(out: &mut Lowered, passive: Passive<'_>) -> Result<(), AllocError> {
     out.put(STARTER)?;
-    out.put(".ready")?;
-    out.number((passive.place as u64).saturating_add(1))
+    out.counted(".ready", (passive.place as u64).saturating_add(1))
 }
 
-/// Puts the entry by which a passive thread begins: it tells so as it receives.
+/// Appends the first entry of a passive thread: it signals that it has begun, and receives.
 fn put_receive(out: &mut Lowered, passive: Passive<'_>) -> Result<(), AllocError> {
     out.put("nbsendrecv ")?;
     put_ready(out, passive)?;
+    put_receiving(out, passive)
+}
+
+/// Puts with what a passive thread receives, the last of an entry.
+fn put_receiving(out: &mut Lowered, passive: Passive<'_>) -> Result<(), AllocError> {
     out.put(" ")?;
     out.put(passive.endpoint)?;
-    out.put(" ")?;
-    out.put(passive.reply)?;
-    out.last(passive.line, " 0")
+    out.last_name(passive.line, " ", passive.reply, " 0")
 }
 
-/// Puts what a passive thread and the starter need for it.
+/// Puts that a thread has the notification of a passive one, with these rights.
+fn put_has_ready(
+    out: &mut Lowered,
+    holder: &str,
+    passive: Passive<'_>,
+    rights: &str,
+) -> Result<(), AllocError> {
+    out.put(holder)?;
+    out.put(" has ")?;
+    put_ready(out, passive)?;
+    out.last(passive.line, rights)
+}
+
+/// Appends the objects and capabilities for a passive thread, its own and the starter's.
 fn put_needs(out: &mut Lowered, passive: Passive<'_>) -> Result<(), AllocError> {
-    let line = passive.line;
-    out.put(passive.name)?;
-    out.put(" has ")?;
-    put_ready(out, passive)?;
-    out.last(line, ":w")?;
+    put_has_ready(out, passive.name, passive, ":w")?;
+    put_has_ready(out, STARTER, passive, ":r")?;
     out.put(STARTER)?;
-    out.put(" has ")?;
-    put_ready(out, passive)?;
-    out.last(line, ":r")?;
-    out.put(STARTER)?;
-    put_named(out, line, " has ", passive.name, ".context")
+    out.last_name(passive.line, " has ", passive.name, ".context")
 }
 
-/// Puts the thread that starts the others, and what it has.
-fn put_starter(out: &mut Lowered, threads: &Threads<'_>, first: u64) -> Result<(), AllocError> {
-    for passive in threads.passives.iter() {
-        out.put("notification ")?;
-        put_ready(out, *passive)?;
-        out.end(passive.line)?;
-    }
-    put_named(out, first, "thread ", STARTER, " prio 255")?;
-    put_named(out, first, STARTER, " has ", STARTER)?;
-    for passive in threads.passives.iter() {
+/// Puts what all passive threads and the starter need for them.
+fn put_all_needs(out: &mut Lowered, passives: &[Passive<'_>]) -> Result<(), AllocError> {
+    for passive in passives {
         put_needs(out, *passive)?;
     }
-    for runner in threads.runners.iter() {
+    Ok(())
+}
+
+/// Puts the notification of a passive thread.
+fn put_notification(out: &mut Lowered, passive: Passive<'_>) -> Result<(), AllocError> {
+    out.put("notification ")?;
+    put_ready(out, passive)?;
+    out.end(passive.line)
+}
+
+/// Puts the notifications of all passive threads.
+fn put_notifications(out: &mut Lowered, passives: &[Passive<'_>]) -> Result<(), AllocError> {
+    for passive in passives {
+        put_notification(out, *passive)?;
+    }
+    Ok(())
+}
+
+/// Puts that the starter has each thread that it lets begin.
+fn put_held(out: &mut Lowered, threads: &Threads<'_>) -> Result<(), AllocError> {
+    for runner in &threads.runners {
         if threads.is_held(runner.name) {
-            put_named(out, runner.line, STARTER, " has ", runner.name)?;
+            out.last_name(runner.line, STARTER, " has ", runner.name)?;
         }
     }
     Ok(())
 }
 
-/// Puts an entry of the starter.
+/// Appends the thread that starts the others, and its capabilities.
+fn put_starter(out: &mut Lowered, threads: &Threads<'_>, first: u64) -> Result<(), AllocError> {
+    put_notifications(out, &threads.passives)?;
+    out.last_name(first, "thread ", STARTER, " prio 255")?;
+    out.last_name(first, STARTER, " has ", STARTER)?;
+    put_all_needs(out, &threads.passives)?;
+    put_held(out, threads)
+}
+
+/// Appends an entry of the starter.
 fn put_entry(
     out: &mut Lowered,
     line: u64,
     entry: &str,
     name: &str,
     after: &str,
-) -> Result<(), AllocError> {
+) -> Result<(), AllocError>
+    ensures { OnOk result
+        (page_of out.new ≡ entry_put (page_of out.old) line entry.now name.now after.now) }
+{
     out.put("user ")?;
     out.put(STARTER)?;
-    put_named(out, line, entry, name, after)
+    out.last_name(line, entry, name, after)
 }
 
-/// Puts the entries of the starter: it waits until all passive threads receive, takes their
-/// contexts away, lets the other users begin, and suspends itself.
-fn put_entries(out: &mut Lowered, threads: &Threads<'_>, first: u64) -> Result<(), AllocError> {
-    for passive in threads.passives.iter() {
-        out.put("user ")?;
-        out.put(STARTER)?;
-        out.put(": wait ")?;
-        put_ready(out, *passive)?;
-        out.end(passive.line)?;
+/// Puts that the starter waits until a passive thread receives.
+fn put_wait(out: &mut Lowered, passive: Passive<'_>) -> Result<(), AllocError> {
+    out.put("user ")?;
+    out.put(STARTER)?;
+    out.put(": wait ")?;
+    put_ready(out, passive)?;
+    out.end(passive.line)
+}
+
+/// Puts that the starter waits until all passive threads receive.
+fn put_waits(out: &mut Lowered, passives: &[Passive<'_>]) -> Result<(), AllocError> {
+    for passive in passives {
+        put_wait(out, *passive)?;
     }
-    for passive in threads.passives.iter() {
+    Ok(())
+}
+
+/// Puts that the starter takes the contexts of all passive threads away.
+fn put_unbinds(out: &mut Lowered, passives: &[Passive<'_>]) -> Result<(), AllocError> {
+    for passive in passives {
         put_entry(out, passive.line, ": unbind ", passive.name, ".context")?;
     }
-    for runner in threads.runners.iter() {
+    Ok(())
+}
+
+/// Puts that the starter lets the other users begin.
+fn put_resumes(out: &mut Lowered, threads: &Threads<'_>) -> Result<(), AllocError> {
+    for runner in &threads.runners {
         if threads.is_held(runner.name) {
             put_entry(out, runner.line, ": resume ", runner.name, "")?;
         }
     }
+    Ok(())
+}
+
+/// Puts the entries of the starter: it waits until all passive threads receive, takes their
+/// contexts away, lets the other users begin, and suspends itself.
+fn put_entries(out: &mut Lowered, threads: &Threads<'_>, first: u64) -> Result<(), AllocError>
+    ensures { OnOk result (IsStarted (page_of out.new)) }
+{
+    put_waits(out, &threads.passives)?;
+    put_unbinds(out, &threads.passives)?;
+    put_resumes(out, threads)?;
     put_entry(out, first, ": suspend ", STARTER, "")
 }
 
-/// Puts the line of a passive thread without the words that say so.
+/// Appends the line of a passive thread without the words that make it passive.
 fn put_passive(out: &mut Lowered, line: &Line<'_>) -> Result<(), AllocError> {
     let mut left: usize = 0;
     let mut between = "";
@@ -246,13 +321,20 @@ fn put_passive(out: &mut Lowered, line: &Line<'_>) -> Result<(), AllocError> {
     out.end(line.origin)
 }
 
+/// Returns whether a line makes a thread that is to begin only when all passive threads wait.
+fn makes_held(threads: &Threads<'_>, line: &Line<'_>) -> bool {
+    match thread_of(&line.words) {
+        Some(name) => threads.is_held(name),
+        None => false,
+    }
+}
+
 /// Puts a line of a thread or of a user as it is where some threads are passive.
 fn put_line(out: &mut Lowered, threads: &Threads<'_>, line: &Line<'_>) -> Result<(), AllocError> {
     if passive_of(&line.words, line.origin, 0).is_some() {
         return put_passive(out, line);
     }
-    let is_held = thread_of(&line.words).is_some_and(|name| threads.is_held(name));
-    if is_held && runs(&line.words) {
+    if makes_held(threads, line) && runs(&line.words) {
         let (code, _comment) = split_comment(line.text);
         out.put(code)?;
         return out.last(line.origin, " stopped");
@@ -260,7 +342,8 @@ fn put_line(out: &mut Lowered, threads: &Threads<'_>, line: &Line<'_>) -> Result
     out.last(line.origin, line.text)
 }
 
-/// Puts the first entry of a passive thread where its program begins, behind that line.
+/// Appends the first line of a program, and after it the first entry of the thread if it is
+/// passive.
 fn put_behind(out: &mut Lowered, threads: &Threads<'_>, line: &Line<'_>) -> Result<(), AllocError> {
     if !is_program(&line.words) {
         return Ok(());
@@ -274,12 +357,22 @@ fn put_behind(out: &mut Lowered, threads: &Threads<'_>, line: &Line<'_>) -> Resu
     Ok(())
 }
 
-/// Puts the first entry of a passive thread as a line of a user.
+/// Appends the first entry of a passive thread as a line of a user.
 fn put_first(out: &mut Lowered, passive: Passive<'_>) -> Result<(), AllocError> {
     out.put("user ")?;
     out.put(passive.name)?;
     out.put(": ")?;
     put_receive(out, passive)
+}
+
+/// Returns whether one of these lines begins the program of a thread.
+fn has_program(lines: &[Line<'_>], name: &str) -> bool {
+    for line in lines {
+        if is_program(&line.words) && user_of(&line.words) == Some(name) {
+            return true;
+        }
+    }
+    false
 }
 
 /// Puts the first entries of all passive threads without a program, and of the starter what its
@@ -291,14 +384,22 @@ fn put_front(
     first: u64,
 ) -> Result<(), AllocError> {
     put_starter(out, threads, first)?;
-    for passive in threads.passives.iter() {
-        let has_program = lines.iter().any(|line| is_program(&line.words)
-            && user_of(&line.words) == Some(passive.name));
-        if !has_program {
+    for passive in &threads.passives {
+        if !has_program(lines, passive.name) {
             put_first(out, *passive)?;
         }
     }
     Ok(())
+}
+
+/// Puts a line, and the first entry of a passive thread behind it if its program begins there.
+fn put_with_entry(
+    out: &mut Lowered,
+    threads: &Threads<'_>,
+    line: &Line<'_>,
+) -> Result<(), AllocError> {
+    put_line(out, threads, line)?;
+    put_behind(out, threads, line)
 }
 
 /// Puts all lines of a plan.
@@ -307,39 +408,54 @@ fn put_plan(
     threads: &Threads<'_>,
     lines: &[Line<'_>],
     first: u64,
-) -> Result<(), AllocError> {
+) -> Result<(), AllocError>
+    ensures { OnOk result (IsStarted (page_of out.new)) }
+{
     let mut is_front = true;
     for line in lines {
         if is_front && user_of(&line.words).is_some() {
             put_front(out, threads, lines, first)?;
             is_front = false;
         }
-        put_line(out, threads, line)?;
-        put_behind(out, threads, line)?;
+        put_with_entry(out, threads, line)?;
     }
     put_entries(out, threads, first)
 }
 
+/// Returns the line from which one came that has so many before it.
+fn origin_of(origins: &[u64], before: usize) -> u64 {
+    match origins.get(before) {
+        Some(origin) => *origin,
+        None => (before as u64).saturating_add(1),
+    }
+}
+
+/// Returns a line, which came from this one.
+fn line_of<'a>(alloc: Global, text: &'a str, origin: u64) -> Result<Line<'a>, AllocError> {
+    let (code, _comment) = split_comment(text);
+    Ok(Line {
+        text,
+        words: split_words(alloc, code)?,
+        origin,
+    })
+}
+
 /// Returns the lines of a plan, each with the one of these from which it came, or its own number
 /// where there are none.
-fn lines_of<'a>(alloc: Global, plan: &'a str, origins: &[u64]) -> Result<Vec<Line<'a>>, Why> {
+fn lines_of<'a>(
+    alloc: Global,
+    plan: &'a str,
+    origins: &[u64],
+) -> Result<Vec<Line<'a>>, AllocError> {
     let mut lines = Vec::new(alloc);
     for (before, text) in plan.lines().enumerate() {
-        let (code, _comment) = split_comment(text);
-        let words = split_words(alloc, code)?;
-        let number = (before as u64).saturating_add(1);
-        let origin = origins.get(before).copied().unwrap_or(number);
-        lines.push(Line {
-            text,
-            words,
-            origin,
-        })?;
+        lines.push(line_of(alloc, text, origin_of(origins, before))?)?;
     }
     Ok(lines)
 }
 
 /// Returns what the lines of a plan say of its threads.
-fn threads_of<'a>(alloc: Global, lines: &[Line<'a>]) -> Result<Threads<'a>, Why> {
+fn threads_of<'a>(alloc: Global, lines: &[Line<'a>]) -> Result<Threads<'a>, AllocError> {
     let mut threads = Threads {
         passives: Vec::new(alloc),
         runners: Vec::new(alloc),
@@ -351,30 +467,57 @@ fn threads_of<'a>(alloc: Global, lines: &[Line<'a>]) -> Result<Threads<'a>, Why>
     Ok(threads)
 }
 
-/// Returns a plan in which each passive thread is one that a starter makes passive. None where no
-/// thread is passive, or none is a user.
-fn lowered_of(alloc: Global, plan: &str, origins: &[u64]) -> Result<Option<Lowered>, Why> {
-    let lines = lines_of(alloc, plan, origins)?;
-    let threads = threads_of(alloc, &lines)?;
-    let first = match threads.passives.first() {
-        Some(passive) if !threads.users.is_empty() => passive.line,
-        Some(_) | None => return Ok(None),
-    };
+/// Returns the plan of these lines, in which each passive thread is one that a starter makes
+/// passive.
+#[tactic(auto, using(crate::proofs::Lowerings::with_starter))]
+fn plan_of(
+    alloc: Global,
+    threads: &Threads<'_>,
+    lines: &[Line<'_>],
+    first: u64,
+) -> Result<Lowered, AllocError>
+    ensures { IfOk result (λ out. IsLowered (page_of out)) }
+{
     let mut out = Lowered::new(alloc);
-    put_plan(&mut out, &threads, &lines, first)?;
-    Ok(Some(out))
+    put_plan(&mut out, threads, lines, first)?;
+    Ok(out)
 }
 
-/// Returns a plan in which each passive thread is one that a starter makes passive, where its lines
-/// came from these. None where no thread is passive, or none is a user. OutOfMemory where memory
-/// was refused.
+/// Returns such a plan of these lines. None where no thread is passive, or none is a user.
+fn lowered_lines(alloc: Global, lines: &[Line<'_>]) -> Result<Option<Lowered>, AllocError>
+    ensures { IfOk result (λ o. IfSome o (λ out. IsLowered (page_of out))) }
+{
+    let threads = threads_of(alloc, lines)?;
+    match threads.first_passive() {
+        Some(first) => Ok(Some(plan_of(alloc, &threads, lines, first)?)),
+        None => Ok(None),
+    }
+}
+
+/// Returns a plan in which each passive thread is one that a starter makes passive. None where no
+/// thread is passive, or none is a user.
+fn lowered_of(alloc: Global, plan: &str, origins: &[u64]) -> Result<Option<Lowered>, AllocError>
+    ensures { IfOk result (λ o. IfSome o (λ out. IsLowered (page_of out))) }
+{
+    let lines = lines_of(alloc, plan, origins)?;
+    lowered_lines(alloc, &lines)
+}
+
+/// Returns a plan in which a starter makes passive threads passive; `origins` says from which lines
+/// its lines came. None if no thread is passive, or none is a user. `OutOfMemory` if an allocation
+/// fails.
 pub fn lower_passives(
     alloc: Global,
     plan: &str,
     origins: &[u64],
-) -> Result<Option<Lowered>, PlanFault> {
+) -> Result<Option<Lowered>, PlanFault>
+    ensures { IfOk result (λ o. IfSome o (λ out. IsLowered (page_of out))) }
+{
     match lowered_of(alloc, plan, origins) {
         Ok(lowered) => Ok(lowered),
-        Err(why) => Err(PlanFault { line: 0, why }),
+        Err(AllocError) => Err(PlanFault {
+            line: 0,
+            why: Why::OutOfMemory,
+        }),
     }
 }

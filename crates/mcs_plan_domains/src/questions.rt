@@ -8,7 +8,7 @@ use crate::lowered::Lowered;
 use crate::statements::Statement;
 use std::alloc::AllocError;
 
-/// What stands before a word of a question.
+/// What precedes a word of a question.
 #[derive(Clone, Copy)]
 pub enum Before {
     Nothing,
@@ -36,7 +36,7 @@ fn is_channel(word: &str) -> bool
     }
 }
 
-/// Returns what stands before the word that follows this one.
+/// Returns what precedes the word after this one.
 fn behind(before: Before, word: &str) -> Before
     ensures { result ≡ behind before word.now }
 {
@@ -53,7 +53,7 @@ fn behind(before: Before, word: &str) -> Before
     }
 }
 
-/// Returns what is put before a word: the number of a handler's channel follows a dot.
+/// Returns the separator before a word: the number of a handler's channel follows a dot.
 fn between(before: Before, word: &str) -> &'static str
     ensures { result.now ≡ between before word.now }
 {
@@ -64,7 +64,7 @@ fn between(before: Before, word: &str) -> &'static str
     }
 }
 
-/// Puts a word of a question.
+/// Appends a word of a question.
 fn put_word(out: &mut Lowered, before: Before, word: &str) -> Result<(), AllocError>
     ensures { OnOk result
         (page_of out.new ≡ word_put (page_of out.old) before word.now) }
@@ -73,7 +73,7 @@ fn put_word(out: &mut Lowered, before: Before, word: &str) -> Result<(), AllocEr
     out.put(word)
 }
 
-/// Puts the words of a question.
+/// Appends the words of a question.
 fn put_words(out: &mut Lowered, words: &[&str]) -> Result<(), AllocError>
     ensures { OnOk result
         (page_of out.new ≡ words_asked (page_of out.old) stands.Nothing words.now) }
@@ -86,7 +86,7 @@ fn put_words(out: &mut Lowered, words: &[&str]) -> Result<(), AllocError>
     Ok(())
 }
 
-/// Puts a question.
+/// Appends a question.
 fn put_question(out: &mut Lowered, question: &Statement<'_>) -> Result<(), AllocError>
     ensures { OnOk result (page_of out.new ≡ question_put (page_of out.old) question.now) }
 {
@@ -94,7 +94,7 @@ fn put_question(out: &mut Lowered, question: &Statement<'_>) -> Result<(), Alloc
     out.end(question.line)
 }
 
-/// Puts all questions.
+/// Appends all questions.
 pub fn put_questions(out: &mut Lowered, questions: &[Statement<'_>]) -> Result<(), AllocError>
     ensures { OnOk result (page_of out.new ≡ questions_put (page_of out.old) questions.now) }
 {

@@ -9,25 +9,25 @@ use mcs_plan_source::{
 };
 use std::alloc::{AllocError, Global};
 
-/// The greatest priority of a domain: the monitor has the next (manual of Microkit).
+/// The greatest priority of a domain; the monitor has the next one (manual of Microkit).
 const PRIORITY_MAX: u64 = 254;
 
 /// The greatest number of a core.
 const CORE_MAX: u64 = 15;
 
-/// What an end of a channel is.
+/// What faults say about an end of a channel.
 const END: &str = "an end of a channel: a domain and a number from 0 to 62, as client.1";
 
-/// What is open.
+/// What is open while a plan is read.
 #[derive(Clone, Copy)]
 enum Open {
     Plan,
     Domain,
-    /// A handler, and so many blocks in it.
+    /// A handler with this many blocks.
     Handler { blocks: usize },
 }
 
-/// A plan that is read line by line.
+/// The reader of a plan, line by line.
 #[derive(Drop)]
 struct Reader<'a> {
     alloc: Global,
@@ -37,7 +37,7 @@ struct Reader<'a> {
     open: Open,
 }
 
-/// Returns the fault of this text; OutOfMemory where there was no memory for it.
+/// Returns the fault with this text; OutOfMemory if the text could not be allocated.
 pub fn told(text: Result<String, AllocError>) -> Why {
     match text {
         Ok(told) => Why::Program { told },
@@ -45,7 +45,7 @@ pub fn told(text: Result<String, AllocError>) -> Why {
     }
 }
 
-/// Returns the fault of what is there already.
+/// Returns the fault of a name that exists already.
 fn twice(alloc: Global, word: &str) -> Why {
     match String::from_str(alloc, word) {
         Ok(word) => Why::Twice { word },
@@ -53,7 +53,7 @@ fn twice(alloc: Global, word: &str) -> Why {
     }
 }
 
-/// Returns whether a line begins what users do.
+/// Returns whether a line begins entries of users.
 fn begins_entries(words: &[&str]) -> bool {
     match words.first() {
         Some(word) => *word == "program" || *word == "user" || word.ends_with(":"),
@@ -61,8 +61,8 @@ fn begins_entries(words: &[&str]) -> bool {
     }
 }
 
-/// Returns whether a line begins a domain or a channel: a thread of that name may have capabilities
-/// (`pd has ..`) or a step on a core (`pd on core 1: ..`).
+/// Returns whether a line begins a domain or a channel; a thread may have such a name, as in `pd
+/// has ..` or `pd on core 1: ..`.
 fn begins_system(words: &[&str]) -> bool {
     match words {
         [first, second, ..] => is_system(first) && *second != "has" && *second != "on",
@@ -76,34 +76,93 @@ fn is_system(word: &str) -> bool {
     word == "pd" || word == "channel"
 }
 
-/// Reads when a handler runs, and what opens it.
-fn event_of(alloc: Global, statement: &Statement<'_>) -> Result<Event, Why> {
-    let mut words = Cursor::new(alloc, &statement.words, 1);
-    let first = statement.first();
-    let event = if first == "init" {
-        Event::Init
-    } else if first == "protected" {
-        Event::Protected(words.number("a channel, from 0 to 62", CHANNEL_MAX)?)
-    } else if first == "notified" {
-        Event::Notified(words.number("a channel, from 0 to 62", CHANNEL_MAX)?)
-    } else {
+/// Reads when a handler runs.
+fn read_event(alloc: Global, first: &str, words: &mut Cursor<'_>) -> Result<Event, Why> {
+    if first == "init" {
+        return Ok(Event::Init);
+    }
+    let is_protected = first == "protected";
+    let is_notified = first == "notified";
+    if !is_protected && !is_notified {
         return Err(not(alloc, first, "init, protected, notified, let or }"));
-    };
+    }
+    let channel = words.number("a channel, from 0 to 62", CHANNEL_MAX)?;
+    if is_protected {
+        return Ok(Event::Protected(channel));
+    }
+    Ok(Event::Notified(channel))
+}
+
+/// Reads the `{` at the end of a statement.
+fn read_opening(words: &mut Cursor<'_>) -> Result<(), Why> {
     words.expect("{")?;
-    words.end()?;
+    words.end()
+}
+
+/// Reads when a handler runs, and what opens it.
+fn read_handler(alloc: Global, first: &str, words: &mut Cursor<'_>) -> Result<Event, Why> {
+    let event = read_event(alloc, first, words)?;
+    read_opening(words)?;
     Ok(event)
 }
 
-/// Reads the parts of a domain behind its name: `prio P`, `on core N`, `passive`.
-fn read_parts(words: &mut Cursor<'_>, domain: &mut Domain<'_>) -> Result<(), Why> {
-    words.expect("prio")?;
-    domain.priority = words.number("a priority, from 0 to 254", PRIORITY_MAX)?;
-    if words.takes("on") {
-        words.expect("core")?;
-        domain.core = words.number("a core, from 0 to 15", CORE_MAX)?;
+/// Returns when a handler runs that this statement begins.
+fn event_of(alloc: Global, statement: &Statement<'_>) -> Result<Event, Why> {
+    let mut words = Cursor::new(alloc, &statement.words, 1);
+    read_handler(alloc, statement.first(), &mut words)
+}
+
+/// What the line of a domain says behind its name.
+#[derive(Clone, Copy)]
+struct Parts {
+    priority: u64,
+    core: u64,
+    is_passive: bool,
+}
+
+/// Reads `on core N`, if the line says it.
+fn read_core(words: &mut Cursor<'_>) -> Result<u64, Why> {
+    if !words.takes("on") {
+        return Ok(0);
     }
-    domain.is_passive = words.takes("passive");
-    Ok(())
+    words.expect("core")?;
+    words.number("a core, from 0 to 15", CORE_MAX)
+}
+
+/// Reads the parts of a domain behind its name: `prio P`, `on core N`, `passive`.
+fn read_parts(words: &mut Cursor<'_>) -> Result<Parts, Why> {
+    words.expect("prio")?;
+    let priority = words.number("a priority, from 0 to 254", PRIORITY_MAX)?;
+    let core = read_core(words)?;
+    Ok(Parts {
+        priority,
+        core,
+        is_passive: words.takes("passive"),
+    })
+}
+
+/// Reads what the line of a domain says behind its name.
+fn read_behind(words: &mut Cursor<'_>) -> Result<Parts, Why> {
+    let parts = read_parts(words)?;
+    read_opening(words)?;
+    Ok(parts)
+}
+
+/// Reads the name of a domain.
+fn read_name<'a>(alloc: Global, statement: &Statement<'a>) -> Result<&'a str, Why> {
+    let Some(name) = statement.words.get(1) else {
+        return Err(Why::Missing {
+            wanted: "the name of a domain",
+        });
+    };
+    if !is_name(name) {
+        return Err(not(
+            alloc,
+            name,
+            "a name: a letter, and then letters, digits, -, _ or .",
+        ));
+    }
+    Ok(*name)
 }
 
 /// Reads the line that begins a domain, which has this number.
@@ -112,31 +171,20 @@ fn read_domain<'a>(
     statement: &Statement<'a>,
     number: u64,
 ) -> Result<Domain<'a>, Why> {
-    let mut words = Cursor::new(alloc, &statement.words, 1);
-    words.need("the name of a domain")?;
-    let name = statement.words.get(1).copied().unwrap_or("");
-    if !is_name(name) {
-        return Err(not(
-            alloc,
-            name,
-            "a name: a letter, and then letters, digits, -, _ or .",
-        ));
-    }
-    let mut domain = Domain {
+    let name = read_name(alloc, statement)?;
+    let mut words = Cursor::new(alloc, &statement.words, 2);
+    let parts = read_behind(&mut words)?;
+    Ok(Domain {
         name,
         line: statement.line,
-        priority: 0,
-        core: 0,
-        is_passive: false,
+        priority: parts.priority,
+        core: parts.core,
+        is_passive: parts.is_passive,
         is_called: false,
         number,
         kept: Vec::new(alloc),
         handlers: Vec::new(alloc),
-    };
-    read_parts(&mut words, &mut domain)?;
-    words.expect("{")?;
-    words.end()?;
-    Ok(domain)
+    })
 }
 
 impl<'a> System<'a> {
@@ -159,14 +207,21 @@ impl<'a> System<'a> {
         words: &[&str],
     ) -> Result<(), AllocError> {
         if plain.text.trim().starts_with("#!") {
-            let words = split_words(alloc, plain.text)?;
-            let line = plain.line;
-            self.questions.push(Statement { words, line })?;
-        } else if begins_entries(words) || !self.tails.is_empty() {
-            self.tails.push(plain)?;
-        } else {
-            self.heads.push(plain)?;
+            return self.add_question(alloc, plain);
         }
+        if begins_entries(words) || !self.tails.is_empty() {
+            self.tails.push(plain)?;
+            return Ok(());
+        }
+        self.heads.push(plain)?;
+        Ok(())
+    }
+
+    /// Adds a question.
+    fn add_question(&mut self, alloc: Global, plain: Plain<'a>) -> Result<(), AllocError> {
+        let words = split_words(alloc, plain.text)?;
+        let line = plain.line;
+        self.questions.push(Statement { words, line })?;
         Ok(())
     }
 
@@ -188,7 +243,7 @@ impl<'a> System<'a> {
         })
     }
 
-    /// Reads an end of a channel. Twice where another channel has it.
+    /// Reads an end of a channel. `Twice` if another channel has it.
     fn end_of(&self, alloc: Global, word: &str) -> Result<End, Why> {
         let Some((name, digits)) = word.rsplit_once('.') else {
             return Err(not(alloc, word, END));
@@ -209,9 +264,12 @@ impl<'a> System<'a> {
         Ok(end)
     }
 
-    /// Returns the priority of the domain in a place.
+    /// Returns the priority of the domain at an index.
     fn priority(&self, place: usize) -> u64 {
-        self.domains.get(place).map_or(0, |domain| domain.priority)
+        match self.domains.get(place) {
+            Some(domain) => domain.priority,
+            None => 0,
+        }
     }
 
     /// Adds a channel between two ends.
@@ -220,46 +278,89 @@ impl<'a> System<'a> {
             return Err(twice(alloc, second));
         }
         if channel.first.domain == channel.second.domain {
-            return Err(told(format!(in alloc; "a channel joins two domains")));
+            return Err(told(String::from_str(alloc, "a channel joins two domains")));
         }
         self.channels.push(channel)?;
-        if channel.is_called
-            && let Some(domain) = self.domains.get_mut(channel.second.domain)
-        {
-            domain.is_called = true;
+        if channel.is_called {
+            self.note_called(channel.second.domain);
         }
         Ok(())
+    }
+
+    /// Notes that the domain in a place may be called.
+    fn note_called(&mut self, place: usize) {
+        if let Some(domain) = self.domains.get_mut(place) {
+            domain.is_called = true;
+        }
+    }
+
+    /// Reads an end of a channel, the next word.
+    fn read_end<'w>(&self, alloc: Global, words: &mut Cursor<'w>) -> Result<(End, &'w str), Why> {
+        let word = words.need(END)?;
+        Ok((self.end_of(alloc, word)?, word))
+    }
+
+    /// Reads whether a channel has protected procedures: `pp`, or `pp any priority`. A fault where
+    /// the domain at its second end, which this word names, may not be called from the first.
+    fn read_called(
+        &self,
+        alloc: Global,
+        words: &mut Cursor<'_>,
+        (first, second): (End, End),
+        word: &str,
+    ) -> Result<bool, Why> {
+        if !words.takes("pp") {
+            return Ok(false);
+        }
+        let allows_any = is_any(words)?;
+        if !allows_any && self.priority(second.domain) <= self.priority(first.domain) {
+            return Err(no_higher(alloc, word));
+        }
+        Ok(true)
+    }
+
+    /// Reads what a line says of a channel: `client.1 server.1 pp`. Returns the word of its second
+    /// end, too.
+    fn channel_said<'w>(
+        &self,
+        alloc: Global,
+        line: u64,
+        words: &mut Cursor<'w>,
+    ) -> Result<(Channel, &'w str), Why> {
+        let (first, _word) = self.read_end(alloc, words)?;
+        let (second, word) = self.read_end(alloc, words)?;
+        let is_called = self.read_called(alloc, words, (first, second), word)?;
+        words.end()?;
+        let channel = Channel {
+            line,
+            first,
+            second,
+            is_called,
+        };
+        Ok((channel, word))
     }
 
     /// Reads a line of a channel: `channel client.1 server.1 pp`.
     fn read_channel(&mut self, alloc: Global, statement: &Statement<'a>) -> Result<(), Why> {
         let mut words = Cursor::new(alloc, &statement.words, 1);
-        let first = self.end_of(alloc, words.need(END)?)?;
-        let word = words.need(END)?;
-        let second = self.end_of(alloc, word)?;
-        let is_called = words.takes("pp");
-        if is_called
-            && !is_any(&mut words)?
-            && self.priority(second.domain) <= self.priority(first.domain)
-        {
-            return Err(no_higher(alloc, word));
+        let (channel, word) = self.channel_said(alloc, statement.line, &mut words)?;
+        self.add_channel(alloc, channel, word)
+    }
+
+    /// Reads the lines of channels.
+    fn read_channels(
+        &mut self,
+        alloc: Global,
+        channels: &[Statement<'a>],
+    ) -> Result<(), PlanFault> {
+        for channel in channels {
+            at(channel.line, self.read_channel(alloc, channel))?;
         }
-        words.end()?;
-        let line = statement.line;
-        self.add_channel(
-            alloc,
-            Channel {
-                line,
-                first,
-                second,
-                is_called,
-            },
-            word,
-        )
+        Ok(())
     }
 }
 
-/// Takes `any priority`, if these words are the next, and returns whether they were.
+/// Takes `any priority`, if these words are next, and returns whether they were.
 fn is_any(words: &mut Cursor<'_>) -> Result<bool, Why> {
     if !words.takes("any") {
         return Ok(false);
@@ -268,7 +369,7 @@ fn is_any(words: &mut Cursor<'_>) -> Result<bool, Why> {
     Ok(true)
 }
 
-/// Returns the fault of a call to a domain of no higher priority.
+/// Returns the fault of a call to a domain without higher priority.
 fn no_higher(alloc: Global, word: &str) -> Why {
     let shown = Shown { text: word };
     told(format!(in alloc;
@@ -281,12 +382,20 @@ impl<'a> Reader<'a> {
     fn read_line(&mut self, line: u64, text: &'a str) -> Result<(), Why> {
         let (code, _comment) = split_comment(text);
         let words = split_words(self.alloc, code)?;
-        if self.is_plain(&words) {
-            self.system
-                .add_plain(self.alloc, Plain { line, text }, &words)?;
-            return Ok(());
+        self.read_words(Plain { line, text }, &words)
+    }
+
+    /// Reads a line of these words.
+    fn read_words(&mut self, plain: Plain<'a>, words: &[&'a str]) -> Result<(), Why> {
+        if self.is_plain(words) {
+            return Ok(self.system.add_plain(self.alloc, plain, words)?);
         }
-        for statement in statements_of(self.alloc, line, &words)? {
+        self.take_all(statements_of(self.alloc, plain.line, words)?)
+    }
+
+    /// Takes statements of a system.
+    fn take_all(&mut self, statements: Vec<Statement<'a>>) -> Result<(), Why> {
+        for statement in statements {
             self.take(statement)?;
         }
         Ok(())
@@ -311,16 +420,21 @@ impl<'a> Reader<'a> {
 
     /// Takes a statement outside of domains.
     fn take_outside(&mut self, statement: Statement<'a>) -> Result<(), Why> {
-        let first = statement.first();
-        if first == "channel" {
+        if statement.first() == "channel" {
             self.channels.push(statement)?;
             return Ok(());
         }
+        self.begin_domain(&statement)
+    }
+
+    /// Takes the statement that begins a domain.
+    fn begin_domain(&mut self, statement: &Statement<'a>) -> Result<(), Why> {
+        let first = statement.first();
         if first != "pd" {
             return Err(not(self.alloc, first, "pd or channel"));
         }
         let number = (self.system.domains.len() as u64).saturating_add(1);
-        let domain = read_domain(self.alloc, &statement, number)?;
+        let domain = read_domain(self.alloc, statement, number)?;
         if self.system.find(domain.name).is_some() {
             return Err(twice(self.alloc, domain.name));
         }
@@ -332,18 +446,35 @@ impl<'a> Reader<'a> {
     /// Takes a statement of a domain outside of handlers.
     fn take_part(&mut self, statement: Statement<'a>) -> Result<(), Why> {
         if statement.closes() {
-            Cursor::new(self.alloc, &statement.words, 1).end()?;
-            self.open = Open::Plan;
-            return Ok(());
+            return self.close(&statement, Open::Plan);
         }
+        if statement.first() == "let" {
+            return Ok(self.keep(statement)?);
+        }
+        self.begin_handler(&statement)
+    }
+
+    /// Takes the statement that closes what is open, behind which this is open.
+    fn close(&mut self, statement: &Statement<'a>, open: Open) -> Result<(), Why> {
+        Cursor::new(self.alloc, &statement.words, 1).end()?;
+        self.open = open;
+        Ok(())
+    }
+
+    /// Takes a word that the domain keeps.
+    fn keep(&mut self, statement: Statement<'a>) -> Result<(), AllocError> {
+        if let Some(domain) = self.system.domains.last_mut() {
+            domain.kept.push(statement)?;
+        }
+        Ok(())
+    }
+
+    /// Takes the statement that begins a handler.
+    fn begin_handler(&mut self, statement: &Statement<'a>) -> Result<(), Why> {
         let Some(domain) = self.system.domains.last_mut() else {
             return Ok(());
         };
-        if statement.first() == "let" {
-            domain.kept.push(statement)?;
-            return Ok(());
-        }
-        let event = event_of(self.alloc, &statement)?;
+        let event = event_of(self.alloc, statement)?;
         if domain.handler(event).is_some() {
             return Err(twice(self.alloc, statement.first()));
         }
@@ -356,16 +487,19 @@ impl<'a> Reader<'a> {
         Ok(())
     }
 
-    /// Takes a statement of a handler, of which so many blocks are open.
+    /// Takes a statement of a handler in which this many blocks are open.
     fn take_inside(&mut self, statement: Statement<'a>, blocks: usize) -> Result<(), Why> {
         if statement.closes() && blocks == 0 {
-            Cursor::new(self.alloc, &statement.words, 1).end()?;
-            self.open = Open::Domain;
-            return Ok(());
+            return self.close(&statement, Open::Domain);
         }
         let still = blocks.saturating_sub(usize::from(statement.closes()));
         let blocks = still.saturating_add(usize::from(statement.opens()));
         self.open = Open::Handler { blocks };
+        Ok(self.add_inside(statement)?)
+    }
+
+    /// Adds a statement to the last handler.
+    fn add_inside(&mut self, statement: Statement<'a>) -> Result<(), AllocError> {
         let Some(domain) = self.system.domains.last_mut() else {
             return Ok(());
         };
@@ -375,15 +509,33 @@ impl<'a> Reader<'a> {
         Ok(())
     }
 
+    /// Reads all lines of a plan.
+    fn read_all(&mut self, plan: &'a str) -> Result<(), PlanFault> {
+        let mut line: u64 = 0;
+        for text in plan.lines() {
+            line = line.saturating_add(1);
+            at(line, self.read_line(line, text))?;
+        }
+        self.end()
+    }
+
     /// Ends the plan. Unclosed where a domain is open.
     fn end(&self) -> Result<(), PlanFault> {
-        let opened = self.system.domains.last().map_or(0, |domain| domain.line);
         match self.open {
             Open::Plan => Ok(()),
-            Open::Domain | Open::Handler { .. } => Err(PlanFault {
-                line: opened,
-                why: Why::Unclosed { opened },
-            }),
+            Open::Domain | Open::Handler { .. } => Err(self.unclosed()),
+        }
+    }
+
+    /// Returns the fault of the last domain, which is not closed.
+    fn unclosed(&self) -> PlanFault {
+        let opened = match self.system.domains.last() {
+            Some(domain) => domain.line,
+            None => 0,
+        };
+        PlanFault {
+            line: opened,
+            why: Why::Unclosed { opened },
         }
     }
 }
@@ -396,7 +548,7 @@ fn at<T: Drop>(line: u64, done: Result<T, Why>) -> Result<T, PlanFault> {
     }
 }
 
-/// Reads all lines of a plan.
+/// Returns what was read of all lines of a plan.
 fn read_lines<'a>(alloc: Global, plan: &'a str) -> Result<Reader<'a>, PlanFault> {
     let mut reader = Reader {
         alloc,
@@ -404,16 +556,11 @@ fn read_lines<'a>(alloc: Global, plan: &'a str) -> Result<Reader<'a>, PlanFault>
         channels: Vec::new(alloc),
         open: Open::Plan,
     };
-    let mut line: u64 = 0;
-    for text in plan.lines() {
-        line = line.saturating_add(1);
-        at(line, reader.read_line(line, text))?;
-    }
-    reader.end()?;
+    reader.read_all(plan)?;
     Ok(reader)
 }
 
-/// Reads a plan. None where it has neither a domain nor a channel. The faults name the line and the
+/// Reads a plan. None if it has neither a domain nor a channel. The faults name the line and the
 /// word.
 pub fn read_system<'a>(alloc: Global, plan: &'a str) -> Result<Option<System<'a>>, PlanFault> {
     let Reader {
@@ -425,8 +572,6 @@ pub fn read_system<'a>(alloc: Global, plan: &'a str) -> Result<Option<System<'a>
     if system.domains.is_empty() && channels.is_empty() {
         return Ok(None);
     }
-    for channel in channels.iter() {
-        at(channel.line, system.read_channel(alloc, channel))?;
-    }
+    system.read_channels(alloc, &channels)?;
     Ok(Some(system))
 }

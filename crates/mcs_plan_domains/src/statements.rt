@@ -1,4 +1,5 @@
 //! The statements of lines: `{` ends one, `}` begins one, and so does what follows `;`.
+use crate::words::is;
 use std::alloc::{AllocError, Global};
 use std::mem;
 
@@ -10,14 +11,22 @@ pub struct Statement<'a> {
 }
 
 impl<'a> Statement<'a> {
-    /// Returns the first word; an empty one where there is none.
+    /// Returns the first word; an empty one if there is none.
     pub fn first(&self) -> &'a str {
-        self.words.first().copied().unwrap_or("")
+        self.word(0)
+    }
+
+    /// Returns the word in a place; an empty one where there is none.
+    pub fn word(&self, place: usize) -> &'a str {
+        match self.words.get(place) {
+            Some(word) => *word,
+            None => "",
+        }
     }
 
     /// Returns whether it opens a block.
     pub fn opens(&self) -> bool {
-        self.words.last().is_some_and(|word| *word == "{")
+        is(self.words.last(), "{")
     }
 
     /// Returns whether it closes a block.
@@ -47,9 +56,9 @@ impl<'a> Splitter<'a> {
         Ok(())
     }
 
-    /// Returns whether the statement is `}` so far, which only `else` continues.
+    /// Returns whether the statement so far is `}`, which only `else` continues.
     fn is_closed(&self) -> bool {
-        self.words.first().is_some_and(|word| *word == "}") && self.words.len() == 1
+        is(self.words.first(), "}") && self.words.len() == 1
     }
 
     /// Takes a word without a semicolon.
@@ -64,7 +73,7 @@ impl<'a> Splitter<'a> {
         Ok(())
     }
 
-    /// Takes a word, behind which a semicolon may end the statement.
+    /// Takes a word, after which a semicolon may end the statement.
     fn take_word(&mut self, word: &'a str) -> Result<(), AllocError> {
         let Some(front) = word.strip_suffix(";") else {
             return self.take(word);
@@ -76,7 +85,7 @@ impl<'a> Splitter<'a> {
     }
 }
 
-/// Returns the statements that the words of a line are.
+/// Returns the statements of a line.
 pub fn statements_of<'a>(
     alloc: Global,
     line: u64,

@@ -1,4 +1,4 @@
-//! A system of protection domains, as a plan says it.
+//! A system of protection domains.
 use crate::ends::End;
 use crate::statements::Statement;
 
@@ -38,7 +38,7 @@ pub struct Domain<'a> {
     pub handlers: Vec<Handler<'a>>,
 }
 
-/// A channel. If it has protected procedures, its first end may call them at its second.
+/// A channel. If it has protected procedures, its first end may call the domain at its second.
 #[derive(Clone, Copy)]
 pub struct Channel {
     pub line: u64,
@@ -59,9 +59,9 @@ pub struct Plain<'a> {
 pub struct System<'a> {
     pub domains: Vec<Domain<'a>>,
     pub channels: Vec<Channel>,
-    /// The lines before the first of a user or a program.
+    /// The lines before the first one of a user or a program.
     pub heads: Vec<Plain<'a>>,
-    /// Those from there on.
+    /// The lines from the first one of a user or a program on.
     pub tails: Vec<Plain<'a>>,
     /// The questions of all orders.
     pub questions: Vec<Statement<'a>>,
@@ -80,38 +80,55 @@ impl Channel {
     }
 }
 
+impl<'a> Handler<'a> {
+    /// Returns whether it is that of notifications of a channel, and has statements.
+    fn is_notified(&self) -> bool {
+        match self.event {
+            Event::Notified(_) => !self.statements.is_empty(),
+            Event::Init | Event::Protected(_) => false,
+        }
+    }
+}
+
 impl<'a> Domain<'a> {
     /// Returns the handler of an event, if there is one.
     pub fn handler(&self, event: Event) -> Option<&Handler<'a>> {
-        self.handlers.iter().find(|handler| handler.event == event)
+        for handler in &self.handlers {
+            if handler.event == event {
+                return Some(handler);
+            }
+        }
+        None
     }
 
-    /// Returns how many channels have a handler of their notifications that has statements.
+    /// Returns how many channels have a handler of notifications with statements.
     pub fn count_notified(&self) -> usize {
         let mut count: usize = 0;
-        for handler in self.handlers.iter() {
-            let is_notified = match handler.event {
-                Event::Notified(_) => true,
-                Event::Init | Event::Protected(_) => false,
-            };
-            let is_full = is_notified && !handler.statements.is_empty();
-            count = count.saturating_add(usize::from(is_full));
+        for handler in &self.handlers {
+            count = count.saturating_add(usize::from(handler.is_notified()));
         }
         count
     }
 }
 
 impl<'a> System<'a> {
-    /// Returns the place of the domain of a name.
+    /// Returns the index of the domain with a name.
     pub fn find(&self, name: &str) -> Option<usize> {
-        self.domains.iter().position(|domain| domain.name == name)
+        for (place, domain) in self.domains.iter().enumerate() {
+            if domain.name == name {
+                return Some(place);
+            }
+        }
+        None
     }
 
     /// Returns the channel with this end.
     pub fn channel(&self, end: End) -> Option<Channel> {
-        self.channels
-            .iter()
-            .find(|channel| channel.other(end).is_some())
-            .copied()
+        for channel in &self.channels {
+            if channel.other(end).is_some() {
+                return Some(*channel);
+            }
+        }
+        None
     }
 }
