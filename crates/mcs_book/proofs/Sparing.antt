@@ -209,12 +209,12 @@ module _ (f : Rec → Bool) (others : (r : Rec) → is_of_slots r ≡ false → 
       go S (Some old) = spares-nothing
       go S None = heard (tied_to S n) (queue_of_any S (tied_to S n)) (first_in S (Waiters n))
 
-  -- a deleted reply object owes nobody any more
+  -- a deleted reply object owes no thread any more
   spares-void : (r : ObjId) → Spares (void_deleted r)
   unfolding void_deleted
   spares-void r = record { at = λ S. (spares-any (owed_by S r) _ (λ x. spares-then _ _ (spares-then _ _ (spares-say (rec.Void r x Deleted) refl) (spares-say (rec.Turns x Inactive) refl)) (spares-back (topped_by S r) x))).at S }
 
-  -- nobody is left with an object
+  -- no thread is left with an object
   spares-release : (R : Log) (o : ObjId) (k : Kind) → Spares (release R o k)
   spares-release R o CNode = spares-nothing
   spares-release R o Endpoint = spares-cancel_all _ Restart
@@ -334,7 +334,7 @@ module _ (f : Rec → Bool) (others : (r : Rec) → is_of_slots r ≡ false → 
   spares-bind_by Reply R s o = passed-err _ _
   spares-bind_by Context R s o = passed-err _ _
 
-  -- nothing is done where nobody receives
+  -- nothing is done where no thread receives
   spares-alone : SparesAct (answers Done nothing)
   spares-alone = spares-answers _ _ spares-nothing
 

@@ -13,7 +13,7 @@ use Rattle.mcs_book.specs.Chains.{is_unlent}
 use Rattle.mcs_book.specs.Checks.{Checked, ◌>>◌, need}
 use Rattle.mcs_book.specs.Pieces.{say, Act, answers}
 
--- whether the context s is held by nobody, homed nowhere, and came along no call that is not ended
+-- whether no thread holds the context s, it is homed nowhere, and no open call passed it on
 abbrev pub is_loose : Log → ObjId → Bool
 is_loose R s = is_none (holder_of R s) && is_none (home_of R s) && is_unlent R s
 

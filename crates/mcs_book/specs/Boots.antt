@@ -118,7 +118,7 @@ has_room R (boot.Context core) = nat_lt (number_of R kind.Context) object_limit
 has_room R (boot.Thread priority maximum root guard runs context) = nat_lt (number_of R kind.Thread) object_limit
 has_room R _ = true
 
--- whether a context that is named is held by nobody
+-- whether a context that is named is held by no thread
 abbrev pub is_free_any : Log → Option ObjId → Bool
 is_free_any R None = true
 is_free_any R (Some s) = is_none (holder_of R s)
@@ -130,7 +130,7 @@ is_free R (boot.Slot c i cap) = is_none (slot R c i)
 is_free R (boot.Tie t n) = is_none (bound_of R t) && is_none (tied_to R n)
 is_free R _ = true
 
--- what is wrong with a line after the log of the lines before it
+-- the fault of a line after the log of the lines before it
 unfoldable pub boot_check : ℕ → Log → BootLine → Result Passed BootFault
 boot_check cores R line = do
   need (has_numbers cores R line) Number
@@ -138,12 +138,12 @@ boot_check cores R line = do
   need (has_room R line) Limit
   need (is_free R line) Taken
 
--- nothing is wrong with the lines
+-- there is no fault in the lines
 abbrev pub AreFaultless : ℕ → List BootLine → Type 0
 AreFaultless cores [] = Unit {0}
 AreFaultless cores (line ∷ lines) = IsTrue (is_ok (boot_check cores (boot_log lines) line)) × AreFaultless cores lines
 
--- nothing is wrong with the boot
+-- there is no fault in the boot
 pub record IsFaultless (b : Boot) : Type 0 where
   pub some_core : 1 ≤ b.cores
   pub few_cores : b.cores ≤ core_limit

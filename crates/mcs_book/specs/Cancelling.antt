@@ -49,7 +49,7 @@ untie x = with_any x (λ x. say (Tied x None))
 abbrev pub untie_from : Option ObjId → ObjId → Piece
 untie_from n x = with_any n (λ n. say (Tied x None))
 
--- a context is held by nobody any more
+-- a context is held by no thread any more
 abbrev pub let_go : Option ObjId → Piece
 let_go s = with_any s (λ s. say (Holds s None))
 
@@ -57,11 +57,11 @@ let_go s = with_any s (λ s. say (Holds s None))
 abbrev pub unhome : Option ObjId → Piece
 unhome s = with_any s (λ s. say (Homed s None))
 
--- the context s is homed nowhere and held by nobody any more
+-- the context s is homed nowhere and held by no thread any more
 unfoldable pub unbind : ObjId → Piece
 unbind s R = (with_any (home_of R s) (λ n. say (Homed s None)) then with_any (holder_of R s) (λ t. say (Holds s None))) R
 
--- a reply object that is deleted owes nobody any more; at a chain's top it returns the context
+-- a reply object that is deleted owes no thread any more; at a chain's top it returns the context
 unfoldable pub void_deleted : ObjId → Piece
 void_deleted r R = with_any (owed_by R r) (λ x. say (Void r x Deleted) then say (Turns x Inactive) then give_back (topped_by R r) x) R
 

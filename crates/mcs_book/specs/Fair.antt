@@ -106,7 +106,8 @@ pub record SendersAreOpen (R : Log) : Type 0 where
   pub open_queued : (x e : ObjId) (m : ℕ) → IsOpenOf R x e m → queue_of R x ≡ Some (Senders e)
   pub one : (x e e' : ObjId) (m n : ℕ) → IsOpenOf R x e m → IsOpenOf R x e' n → m ≡ n
 
--- Answered once. What is paid or void was owed, to that caller; and what comes to owe owed nobody.
+-- Answered once. What is paid or void was owed, to that caller; and what comes to owe owed no
+-- thread.
 abbrev pub AnswersOwed : Log → Rec → Type 0
 AnswersOwed R (Paid r x message) = owed_by R r ≡ Some x
 AnswersOwed R (Void r x ending) = owed_by R r ≡ Some x

@@ -11,7 +11,7 @@ threads_of [] = 0
 threads_of (boot.Thread priority maximum root guard runs context ∷ lines) = threads_of lines + 1
 threads_of (_ ∷ lines) = threads_of lines
 
--- how many records a line makes at most, where so many threads were made
+-- how many records a line makes at most, where this many threads were made
 abbrev pub most_records : ℕ → ℕ
 most_records made = 4 * made + 32
 

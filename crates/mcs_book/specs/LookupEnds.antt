@@ -117,7 +117,7 @@ HasOnePath R t bits = (root : Cap) → root_of R t ≡ Some root → HasOnePathF
 abbrev pub FindsNamed : Log → ObjId → ℕ → Type 0
 FindsNamed R t address = (cap : Cap) → (capability R t address ≡ Ok cap) ↔ IsNamed R t address cap
 
--- and is refused exactly where none is named, for the reason that the paths give
+-- an address is refused exactly where none is named, for the reason that the paths give
 abbrev pub RefusesUnnamed : Log → ObjId → ℕ → Type 0
 RefusesUnnamed R t address = (why : Refusal) → (capability R t address ≡ Err why) ↔ IsUnnamed R t address why
 

@@ -23,7 +23,7 @@ pub record Written : Type 0 where
   pub boot_room : ℕ
   pub room : ℕ
 
--- the lists have room for so many records, of MOST_WORDS words each, and for as many heads, at
+-- the lists have room for this many records, of MOST_WORDS words each, and for as many heads, at
 -- places that can be named
 pub record HasSpace {Z : Type 0} (hs : Vec Head Z) (ps : Vec Packed Z) (a : Arena) (n : ℕ) : Type 0 where
   pub heads : vec_len hs + n ≤ vec_capacity hs

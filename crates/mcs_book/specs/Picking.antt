@@ -16,7 +16,7 @@ pub record GoesBefore (R : Log) (t u : ObjId) : Type 0 where
   pub priority : prio_of R u ≤ prio_of R t
   pub serial : prio_of R u ≡ prio_of R t → t.serial ≤ u.serial
 
--- the candidate that goes before all others; none where there is none
+-- the candidate that goes before all others; none if there is none
 abbrev pub IsPick : Log → CoreId → List Bool → Option ObjId → Type 0
 IsPick R core passed None = (u : ObjId) → is_candidate R core passed u ≡ true → ⊥
 IsPick R core passed (Some t) = (is_candidate R core passed t ≡ true) × ((u : ObjId) → is_candidate R core passed u ≡ true → GoesBefore R t u)

@@ -47,8 +47,8 @@ sends letter answer alone R = sends_to (letter R) answer alone (first_in R (Rece
 unfoldable pub queues : (Log → Letter) → Act
 queues letter R = answers Waits (sent (letter R) then say (Joins ((letter R).sender) (Senders ((letter R).endpoint)) None)) R
 
--- a send over an endpoint, a notification or a reply capability; alone is what it does where nobody
--- receives
+-- a send over an endpoint, a notification or a reply capability; alone is what it does where no
+-- thread receives
 unfoldable pub send_by : Kind → SendMode → ObjId → Cap → Content → Act → Checked Act
 send_by Endpoint mode t cap message alone = do
   need (may_write cap) NoRight

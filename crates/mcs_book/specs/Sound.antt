@@ -45,7 +45,7 @@ IsLineThere R (Senders e) = IsThere R kind.Endpoint e
 IsLineThere R (Receivers e) = IsThere R kind.Endpoint e
 IsLineThere R (Waiters n) = IsThere R kind.Notification n
 
--- nobody is in a queue
+-- no thread is in a queue
 abbrev pub IsEmptyLine : Log → Queue → Type 0
 IsEmptyLine R q = (x : ObjId) → queue_of R x ≢ Some q
 
@@ -57,7 +57,7 @@ IsOwedNothing R x = (r : ObjId) → owed_by R r ≢ Some x
 abbrev pub IsIdle : Log → ObjId → Type 0
 IsIdle R x = (queue_of R x ≡ None) × IsOwedNothing R x
 
--- nobody receives with r
+-- no thread receives with r
 abbrev pub IsUnattended : Log → ObjId → Type 0
 IsUnattended R r = (x e : ObjId) → queue_of R x ≡ Some (Receivers e) → reply_with R x ≢ Some r
 
@@ -81,7 +81,7 @@ IsNoHome R n = (s : ObjId) → home_of R s ≢ Some n
 abbrev pub HasNoneOpen : Log → ObjId → Type 0
 HasNoneOpen R x = (e : ObjId) (m : ℕ) → IsOpenOf R x e m → ⊥
 
--- nobody is left with o
+-- no thread is left with o
 abbrev pub IsReleased : Log → Kind → ObjId → Type 0
 IsReleased R kind.CNode o = ⊥
 IsReleased R kind.Endpoint o = IsEmptyLine R (Senders o) × IsEmptyLine R (Receivers o)

@@ -15,8 +15,8 @@ use std::alloc::Global;
 use std::marker::Model;
 use std::mem;
 
-/// A line of the book: an entry by a thread on a core, its answer, and its records. It is read by
-/// value, and takes no memory from an allocator.
+/// A line of the book: a thread's entry on a core, its answer and its records. It borrows the book
+/// and allocates nothing.
 #[derive(Drop)]
 pub struct Line<'a> {
     head: &'a Head,
@@ -43,7 +43,7 @@ impl<'a> Model for Line<'a> {
 }
 
 impl<'a> Line<'a> {
-    /// The thread that entered, its core and the entry, where the book keeps them.
+    /// Returns the thread that entered, its core and the entry, in packed form.
     pub fn kept_step(&self) -> KeptStep<'_>
         ensures { result ≡ self.now.step }
     {
@@ -56,14 +56,15 @@ impl<'a> Line<'a> {
         }
     }
 
-    /// The thread that entered, its core and the entry. A message of four words takes no memory.
+    /// Returns the thread that entered, its core and the entry. A message of at most four words
+    /// allocates nothing.
     pub fn step(&self, alloc: Global) -> Result<Step, OutOfMemory>
         ensures { IfOk result (λ s. s ≡ self.now.step) }
     {
         self.kept_step().unpack(alloc)
     }
 
-    /// What the entry was answered, where the book keeps it.
+    /// Returns the answer to the entry, in packed form.
     pub fn kept_answer(&self) -> KeptAnswer<'_>
         ensures { result ≡ self.now.answer }
     {
@@ -74,30 +75,29 @@ impl<'a> Line<'a> {
         }
     }
 
-    /// What the entry was answered. A message of four words takes no memory.
+    /// Returns the answer to the entry. A message of at most four words allocates nothing.
     pub fn answer(&self, alloc: Global) -> Result<Answer, OutOfMemory>
         ensures { IfOk result (λ a. a ≡ self.now.answer) }
     {
         self.kept_answer().unpack(alloc)
     }
 
-    /// How many records there are.
+    /// Returns how many records the line has.
     pub fn record_count(&self) -> usize
         ensures { result ≡ length self.now.records }
     {
         self.packed.len()
     }
 
-    /// The record of number `i` where the book keeps it, if there is one, in the order in which
-    /// they were recorded.
+    /// Returns record `i` of the line in packed form, oldest first; None if there is none.
     pub fn kept_record(&self, i: usize) -> Option<KeptRecord<'_>>
         ensures { result ≡ slice_get self.now.records i }
     {
         record_at(self.packed, self.words, self.wide, i)
     }
 
-    /// The record of number `i`, if there is one, in the order in which they were recorded.
-    /// A message of four words takes no memory.
+    /// Returns record `i` of the line, oldest first; None if there is none. A message of at most
+    /// four words allocates nothing.
     pub fn record(&self, alloc: Global, i: usize) -> Result<Option<Rec>, OutOfMemory>
         ensures { IfOk result (λ o. o ≡ slice_get self.now.records i) }
     {
@@ -108,7 +108,7 @@ impl<'a> Line<'a> {
     }
 }
 
-/// The record of this number, if there is one, where it is kept.
+/// Returns record `i` in packed form; None if there is none.
 fn record_at<'a>(
     packed: &'a [Packed],
     words: &'a [u64],
@@ -128,12 +128,12 @@ fn record_at<'a>(
     }
 }
 
-/// The boot, and a line for each entry that was let in. All is kept packed: a head for each line,
-/// the records of all lines side by side, and the words that they name. `sent` has the place of the
-/// words of each message. The packed records from `start` on are those of the open line, and `room`
-/// is 0 or how many more it may have, and one more. Beside these the lists have room for `ahead`
-/// records, heads and all. Two hints for the open line's head: the words of the line are from
-/// `first` on, and those of its answer may be at `place`.
+/// The boot, and a line for each accepted entry. All is packed: a head for each line, the records
+/// of all lines side by side, and the words that they name. `sent` has the position of each
+/// message's words. The packed records from `start` on are those of the open line; `room` is 0, or
+/// one more than the records that it may still have. Besides, the lists have capacity for `ahead`
+/// records, heads included. Two hints serve the open line's head: its words begin at `first`, and
+/// those of its answer may be at `place`.
 pub struct Book {
     cores: u8,
     boot: Vec<BootLine>,
@@ -148,8 +148,8 @@ pub struct Book {
     place: u32,
 }
 
-// By hand, so that it is a function of its own: a derived drop would be proved anew wherever a book
-// is dropped.
+// Written by hand as a separate function: a derived drop would be proved again wherever a book is
+// dropped.
 impl Drop for Book {
     fn drop(self) {
         let Book {
@@ -198,7 +198,7 @@ impl Model for Book {
         × HasSpace b.heads b.packed b.arena b.ahead };
 }
 
-/// Where the records of an entry begin: where those of the one before it end.
+/// Returns where the records of a line begin: where those of the line before it end.
 fn start_of(heads: &[Head], words: &[u64], at: usize) -> usize
     requires { at < length heads.now }
     ensures { result ≡ start_at 0 (all_entered heads.now words.now) at }
@@ -210,7 +210,7 @@ fn start_of(heads: &[Head], words: &[u64], at: usize) -> usize
     }
 }
 
-/// The packed records from one position to another.
+/// Returns the packed records from one position to another.
 fn part(packed: &[Packed], start: usize, end: usize) -> &[Packed]
     requires starts { start ≤ end }
     requires ends { end ≤ length packed.now }
@@ -219,7 +219,7 @@ fn part(packed: &[Packed], start: usize, end: usize) -> &[Packed]
     &packed[start..end]
 }
 
-/// The line of an entry, with its part of the records.
+/// Returns the line of an entry, with its part of the records.
 fn line_at<'a>(
     heads: &'a [Head],
     packed: &'a [Packed],
@@ -246,12 +246,12 @@ fn line_at<'a>(
     }
 }
 
-// What packs a record, makes room for it or closes its line is inlined where it is made: the kind
-// of the record is known there.
+// What packs a record, makes room for it or closes its line is inlined into callers, which know the
+// kind of the record.
 
-/// Notes where the words of a message that was sent are, and where those of the line's answer may:
-/// those of what was taken or heard. A place is a hint: what is there is compared before it is
-/// shared.
+/// Notes where the words of a sent message are, and where those of the line's answer may be: the
+/// words of the message that was taken or heard. A position is a hint: the code compares what is
+/// there before it shares it.
 #[inline(always)]
 fn note_place(sent: &mut Vec<u32>, place: &mut u32, packed: &Packed) {
     match packed {
@@ -268,7 +268,7 @@ fn note_place(sent: &mut Vec<u32>, place: &mut u32, packed: &Packed) {
     }
 }
 
-/// Packs a record, for which there is room, after the others.
+/// Packs a record after the others; the lists need room for it.
 #[inline(always)]
 fn push_packed(
     arena: &mut Arena,
@@ -292,7 +292,7 @@ fn push_packed(
     packed.push_reserved(one);
 }
 
-/// Packs the record of a message that was sent likewise.
+/// Packs the record of a sent message after the others, as `push_packed` does.
 #[inline(always)]
 fn push_sent(
     arena: &mut Arena,
@@ -321,7 +321,7 @@ fn push_sent(
     packed.push_reserved(one);
 }
 
-/// Packs the record of an answer to a caller likewise.
+/// Packs the record of a reply to a caller after the others, as `push_packed` does.
 #[inline(always)]
 fn push_paid(
     arena: &mut Arena,
@@ -347,8 +347,8 @@ fn push_paid(
     packed.push_reserved(one);
 }
 
-/// Returns a copy of the lines of a boot, with room for exactly `room` lines. OutOfMemory where
-/// that is refused.
+/// Returns a copy of the lines of a boot, with room for exactly `room` lines. `OutOfMemory` if that
+/// is refused.
 fn copy_boot(alloc: Global, boot: &[BootLine], room: usize) -> Result<Vec<BootLine>, OutOfMemory>
     requires { length boot.now ≤ room }
     ensures items { IfOk result (λ v. v.items ≡ boot.now) }
@@ -362,7 +362,7 @@ fn copy_boot(alloc: Global, boot: &[BootLine], room: usize) -> Result<Vec<BootLi
     Ok(copy)
 }
 
-/// Keeps the first packed records alone.
+/// Keeps only the first packed records.
 fn keep_first(packed: &mut Vec<Packed>, count: usize)
     ensures items { packed.new.items ≡ take count packed.old.items }
     ensures capacity { vec_capacity packed.new ≡ vec_capacity packed.old }
@@ -370,7 +370,7 @@ fn keep_first(packed: &mut Vec<Packed>, count: usize)
     packed.truncate(count);
 }
 
-/// Where the packed records end.
+/// Returns where the packed records end.
 fn end_of(packed: &Vec<Packed>) -> u32
     requires { vec_len packed.now < 2 ^ 32 }
     ensures { result ≡ vec_len packed.now }
@@ -378,7 +378,7 @@ fn end_of(packed: &Vec<Packed>) -> u32
     packed.len() as u32
 }
 
-/// The head of a line whose records end at a position.
+/// Returns the head of a line whose records end at a position.
 fn line_head(step: &Step, entry: PackedEntry, answer: PackedAnswer, end: u32) -> Head
     ensures { result ≡ line_head step.now entry answer end }
 {
@@ -409,24 +409,24 @@ const ENTRY_ROOM: usize = MESSAGE_ROOM + 2;
 /// with a message.
 const SPARE_WORDS: usize = MESSAGE_ROOM - MOST_WORDS;
 
-/// The room of how many records the words of one line's entry, answer and long messages take.
+/// The words of one line's entry, answer and long messages need as much room as this many records.
 const HEAD_RECORDS: usize = (SPARE_WORDS + 2 * ENTRY_ROOM) / MOST_WORDS + 1;
 
-/// The most records of one line, for which there may be room.
+/// The most records of one line for which room can be reserved.
 const MOST_RECORDS: usize = 1_000_000;
 
-/// For how many lines with as many records room is made ahead: long lists grow where they are, so
-/// early room saves copies.
+/// For how many lines of the same size room is reserved ahead. Long lists grow in place, so early
+/// growth saves copies.
 const LINES_AHEAD: usize = 16;
 
-/// The most records, words and wide records, to which more may be added: so places stay below 3
+/// Beyond this many records, words or wide records nothing is added, so positions stay below 3
 /// times 2 to the 30.
 const MOST_KEPT: usize = 1 << 31;
 
 /// The most records for which there is room ahead.
 const MOST_AHEAD: usize = 1 << 27;
 
-/// For how many records, with the heads of their lines, the lists have room.
+/// Returns for how many records, with the heads of their lines, the lists have capacity.
 fn space_of(heads: &Vec<Head>, packed: &Vec<Packed>, arena: &Arena, sent: &Vec<u32>) -> usize
     requires packed { vec_len packed.now ≤ MOST_KEPT }
     requires words { vec_len arena.now.words ≤ MOST_KEPT }
@@ -445,7 +445,7 @@ fn space_of(heads: &Vec<Head>, packed: &Vec<Packed>, arena: &Arena, sent: &Vec<u
 }
 
 impl Book {
-    /// A book whose boot has no line but that of the cores.
+    /// Returns a book whose boot has only the line of the cores.
     pub fn new(alloc: Global, cores: u8) -> Book
         ensures cores { result.book.boot.cores ≡ cores }
         ensures boot { result.book.boot.lines ≡ [] }
@@ -491,7 +491,7 @@ impl Book {
     }
 
     /// Clones the book in the memory of a spare one, with as much room, so that the clone takes
-    /// memory for a line only where this one would. OutOfMemory where memory is refused.
+    /// memory for a line only if this one would. `OutOfMemory` if an allocation fails.
     pub fn copy(&self, alloc: Global, spare: Option<Book>) -> Result<Book, OutOfMemory>
         ensures { IfOk result (λ b. b ≡ self.now) }
     {
@@ -517,8 +517,8 @@ impl Book {
         })
     }
 
-    /// Makes room for one line of the boot; where there is room it takes no memory. The book is as
-    /// it was.
+    /// Makes room for one line of the boot; if there is room it takes no memory. The book is as it
+    /// was.
     pub fn reserve_boot_line(&mut self) -> Result<(), OutOfMemory>
         ensures room { OnOk result (0 < self.new.boot_room) }
         ensures full { OnErr result (self.old.boot_room ≡ 0) }
@@ -556,8 +556,8 @@ impl Book {
         }
     }
 
-    /// Gives the open line room for so many more records, of the room ahead. Whether that is
-    /// enough.
+    /// Takes room for `records` more records of the open line from the room reserved ahead. Returns
+    /// whether that is enough.
     #[inline(always)]
     fn give_room(&mut self, records: usize) -> bool
         ensures room { IsTrue result → records < self.new.room }
@@ -566,7 +566,7 @@ impl Book {
         ensures hand { self.new.hand ≡ self.old.hand }
         ensures none { result ≡ false → self.new.room ≡ self.old.room }
     {
-        // a number kept, not a test of each list: every line asks
+        // keeping the number saves a test of each list for every line
         if MOST_RECORDS < records || self.ahead < records + HEAD_RECORDS {
             return false;
         }
@@ -577,7 +577,7 @@ impl Book {
     }
 
     /// Makes room in the lists, as `reserve` says.
-    // out of line, so that a line for which there is room pays for the test alone
+    // not inlined, so that a line with room pays only for the test
     #[cold]
     #[inline(never)]
     fn grow(&mut self, records: usize) -> Result<(), OutOfMemory>
@@ -606,10 +606,10 @@ impl Book {
         Ok(())
     }
 
-    /// Makes room for one line with that many records beside those that it has; where there is room
-    /// it takes no memory. The book is as it was. It is out of memory as well for more than
-    /// 1,000,000 records, and where more than 2 to the 31 records or words are kept and what there
-    /// is room for ahead is used up.
+    /// Makes room for one line with that many records beside those that it has; if there is room it
+    /// takes no memory. The book is as it was. It is out of memory as well for more than 1,000,000
+    /// records, and where more than 2 to the 31 records or words are kept and what there is room
+    /// for ahead is used up.
     #[inline(always)]
     pub fn reserve(&mut self, records: usize) -> Result<(), OutOfMemory>
         ensures room { OnOk result (records < self.new.room) }
@@ -701,7 +701,8 @@ impl Book {
         self.room -= 1;
     }
 
-    /// Notes records in order, for which there is room. What is in their places then means nothing.
+    /// Notes records in order; the lists need room for them. Afterwards the slice holds no
+    /// meaningful values.
     fn note_all(&mut self, records: &mut [Rec])
         requires { length records.old < self.old.room }
         ensures hand { self.new.hand ≡ reverse records.old ++ self.old.hand }
@@ -713,7 +714,7 @@ impl Book {
         }
     }
 
-    /// Adds a line with the records of the open one; the next open one has none, and no room.
+    /// Adds a line with the records of the open line. The new open line has no records and no room.
     #[inline(always)]
     pub fn close(&mut self, step: &Step, answer: &Answer)
         requires { 0 < self.old.room }
@@ -750,7 +751,7 @@ impl Book {
         self.close(step, answer);
     }
 
-    /// How many records the open line has.
+    /// Returns how many records the open line has.
     pub fn open_records(&self) -> usize
         ensures { result ≡ length self.now.hand }
     {
@@ -758,7 +759,7 @@ impl Book {
         end - self.start
     }
 
-    /// How many lines there are, the boot's among them.
+    /// Returns how many lines there are, the boot's among them.
     pub fn lines(&self) -> usize
         ensures { result ≡ length self.now.book.lines + 1 }
     {

@@ -1,16 +1,16 @@
-//! Each law of fair books says something: small books that break one, and small books that keep
-//! all, each the contract of a function that does nothing.
+//! No law of fair books is vacuous: small books that break one, and small books that keep all. Each
+//! statement is the contract of a function that does nothing.
 ghost use Rattle.mcs_book.specs.Each.{EachLine, AfterEachLine, EachRecord};
 ghost use Rattle.mcs_book.specs.Fair.{EndsOpen, IsWholeLine, TakesFirst, TakesInOrder, TakesAlive, SendersAreOpen, AnswersOwed, AnswersWhole, NoneWaitBeside, IsFair};
 ghost use Rattle.mcs_book.specs.History.{IsLegal};
 ghost use Rattle.mcs_book.specs.SmallBooks.{answered, taken_in_turn, second_take, wrong_badge, not_the_first, out_of_order, after_the_end, nothing_sent, paid_twice, kept_context, both_wait};
 
-/// Each law of fair books refuses a small book. In these, one after another, a message is taken
-/// twice; is taken with another badge than it was sent with; is taken from a sender that is not the
-/// first in the queue; the later of two messages of one sender is taken first; a message is taken
-/// once its endpoint was closed; a sender is in its queue with no open message; a call is answered
-/// twice; the context that a call brought does not return with its answer; and a sender waits
-/// beside a receiver.
+/// Law: each law of fair books refuses a small book. In these books, in this order, a message is
+/// taken twice; it is taken with another badge than it was sent with; it is taken from a sender
+/// that is not first in the queue; the later of two messages of one sender is taken first; a
+/// message is taken after its endpoint was closed; a sender is queued without an open message; a
+/// call is answered twice; the context that a call brought does not return with its answer; and a
+/// sender waits beside a receiver.
 pub fn each_law_refuses()
     ensures second_take { EachRecord EndsOpen second_take → ⊥ }
     ensures wrong_badge { EachLine IsWholeLine wrong_badge → ⊥ }
@@ -23,13 +23,14 @@ pub fn each_law_refuses()
     ensures both_wait { AfterEachLine NoneWaitBeside both_wait → ⊥ }
 {}
 
-/// A book with a call, its answer and the context that returns is legal, and fair.
+/// Law: a book with a call, its answer and the returning context is legal and fair.
 pub fn answered_is_fair()
     ensures legal { IsLegal answered }
     ensures fair { IsFair answered }
 {}
 
-/// A book in which two senders are in their queues and are taken by priority is legal, and fair.
+/// Law: a book in which two senders are in their queues and are taken by priority is legal, and
+/// fair.
 pub fn taken_in_turn_is_fair()
     ensures legal { IsLegal taken_in_turn }
     ensures fair { IsFair taken_in_turn }

@@ -17,46 +17,45 @@ ghost use Rattle.mcs_book.specs.History.{Book, IsLegal, log_of, steps_of, book_o
 ghost use Rattle.mcs_book.specs.Each.{EachRecord, EachLine, AfterEachLine};
 ghost use Rattle.mcs_book.specs.Fair.{EndsOpen, NoneWaitBeside, SendersAreOpen, AnswersOwed, AnswersWhole, TakesAlive, TakesFirst, TakesInOrder, IsFair};
 
-/// A legal book takes or drops each message at most once.
+/// Law: a legal book takes or drops each message at most once.
 pub fn taken_once()
     ghost book: { Book }
     requires { IsLegal book }
     ensures { EachRecord EndsOpen book }
 {}
 
-/// After each line of a legal book no sender waits beside a waiting receiver.
+/// Law: after each line of a legal book no sender waits beside a waiting receiver.
 pub fn none_beside()
     ghost book: { Book }
     requires { IsLegal book }
     ensures { AfterEachLine NoneWaitBeside book }
 {}
 
-/// After each line of a legal book a thread is queued among the senders of an endpoint exactly
-/// where a message of it is open there, and no thread has two.
+/// Law: after each line of a legal book a thread is queued among the senders of an endpoint exactly
+/// if a message of it is open there, and no thread has two.
 pub fn not_cancelled()
     ghost book: { Book }
     requires { IsLegal book }
     ensures { AfterEachLine SendersAreOpen book }
 {}
 
-/// Each record of a legal book was allowed when it was made: what must hold before a record of its
-/// kind did hold.
+/// Law: each record of a legal book was allowed when it was made: the condition for its kind held.
 pub fn sound()
     ghost book: { Book }
     requires { IsLegal book }
     ensures { Sound (log_of book) }
 {}
 
-/// In a legal book a reply object that is paid or void owed that caller, and one that comes to owe
-/// owed nobody.
+/// Law: in a legal book a reply object that is paid or void owed that caller, and one that comes to
+/// owe owed no thread.
 pub fn answered_once()
     ghost book: { Book }
     requires { IsLegal book }
     ensures { EachRecord AnswersOwed book }
 {}
 
-/// After the line of an answer in a legal book the caller has the message of the line's entry as
-/// its mail, and, where the answer topped a chain and the caller held no context, the context that
+/// Law: after the line of a reply in a legal book the caller's mail is the message of the line's
+/// entry. If the reply object topped a chain and the caller held no context, it holds the one that
 /// it brought.
 pub fn answered_whole()
     ghost book: { Book }
@@ -64,84 +63,84 @@ pub fn answered_whole()
     ensures { EachLine AnswersWhole book }
 {}
 
-/// In a legal book the endpoint of a message that is taken is there.
+/// Law: when a legal book takes a message, its endpoint exists.
 pub fn not_deleted()
     ghost book: { Book }
     requires { IsLegal book }
     ensures { EachRecord TakesAlive book }
 {}
 
-/// When a message of a legal book is taken, its sender is the first of the senders in the queue, or
-/// its taker the first of the receivers, never both.
+/// Law: when a message of a legal book is taken, its sender is the first of the senders in the
+/// queue, or its taker the first of the receivers, never both.
 pub fn by_priority()
     ghost book: { Book }
     requires { IsLegal book }
     ensures { EachRecord TakesFirst book }
 {}
 
-/// When a message of a legal book is taken, no later message of its sender was taken before.
+/// Law: when a message of a legal book is taken, no later message of its sender was taken before.
 pub fn sent_in_order()
     ghost book: { Book }
     requires { IsLegal book }
     ensures { EachRecord TakesInOrder book }
 {}
 
-/// In a legal book an object that is made has the next id of its kind.
+/// Law: in a legal book an object that is made has the next id of its kind.
 pub fn serials_counted()
     ghost book: { Book }
     requires { IsLegal book }
     ensures { EachRecord TakesNextId book }
 {}
 
-/// In a legal book no object is made twice.
+/// Law: in a legal book no object is made twice.
 pub fn made_once()
     ghost book: { Book }
     requires { IsLegal book }
     ensures { EachRecord MadeOnce book }
 {}
 
-/// A legal book is fair: all its laws at once.
+/// Law: a legal book is fair: all its laws at once.
 pub fn fair()
     ghost book: { Book }
     requires { IsLegal book }
     ensures { IsFair book }
 {}
 
-/// The steps of a legal book, taken again after its boot, make the book.
+/// Law: the steps of a legal book, taken again after its boot, make the book.
 pub fn replayed()
     ghost book: { Book }
     requires { IsLegal book }
     ensures { book_of book.boot (steps_of book) ≡ book }
 {}
 
-/// The queue that joins, parts and priorities build is the queue in order.
+/// Law: the queue built by joins, parts and priority changes is in order.
 pub fn queue_in_order()
     ghost at: { Log × Queue }
     requires { Sound at.0 }
     ensures { queued_in at.0 at.1 ≡ threads_in (growing_queue at.0 at.1) }
 {}
 
-/// The word that signals build is the bits of the badges raised since it was heard.
+/// Law: the word that signals build up is the bits of all badges raised since it was last heard.
 pub fn word_joined()
     ghost at: { Log × ObjId }
     ensures { pending at.0 at.1 ≡ growing_word at.0 at.1 }
 {}
 
-/// The open message that records leave to a thread is the one found among those sent.
+/// Law: the open message that the records leave to a thread is the one found among those sent.
 pub fn open_found()
     ghost at: { Log × ObjId }
     requires { Sound at.0 }
     ensures { open_of at.0 at.1 ≡ growing_open at.0 at.1 }
 {}
 
-/// A capability that lookup finds at an address is the one that a path names.
+/// Law: a capability that lookup finds at an address is the one that a path names.
 pub fn found_named()
     ghost at: { Log × ObjId × ℕ × Cap }
     requires { capability at.0 at.1 at.2 ≡ Ok at.3 }
     ensures { IsNamed at.0 at.1 at.2 at.3 }
 {}
 
-/// The chain that debts push and endings cut is the chain of the debts that are kept.
+/// Law: the chain that debts push to and endings cut is the chain of the debts that remain.
 pub fn chain_kept()
     ghost at: { Log × ObjId }
     requires { Sound at.0 }

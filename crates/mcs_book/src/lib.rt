@@ -1,4 +1,4 @@
-//! The book of all entries that were let in, and the definitions of what it means.
+//! The book of all accepted entries, and the definitions of its meaning.
 #![tactic(auto)]
 
 mod book;

@@ -1,4 +1,4 @@
-//! What a line may have at most: laws, each the contract of a function that does nothing.
+//! Laws about the size of a line, each the contract of a function that does nothing.
 ghost use Rattle.std.specs.Prelude.{false, length, ◌≡◌, ◌≤◌};
 ghost use Rattle.mcs_types.specs.Brings.{receives, IsPlain};
 ghost use Rattle.mcs_types.specs.declared.id.CoreId.{CoreId};
@@ -11,21 +11,22 @@ ghost use Rattle.mcs_book.specs.History.{Book, IsLegal};
 ghost use Rattle.mcs_book.specs.Each.{EachLine};
 ghost use Rattle.mcs_book.specs.Limits.{threads_of, most_records, HasAtMost};
 
-/// An entry after any log makes at most 32 records, and four more for each thread that was made.
+/// Law: an entry makes at most 32 records, and four more for each thread that exists, after any
+/// log.
 pub fn entry_short()
     ghost at: { Log × CoreId × ObjId × Entry }
     ensures { length (does at.0 at.1 at.2 at.3).records ≤ most_records (length (threads at.0)) }
 {}
 
-/// No line of a legal book after the boot's has more than 32 records, and four more for each thread
-/// of the boot.
+/// Law: no line of a legal book after the boot's has more than 32 records, and four more for each
+/// thread of the boot.
 pub fn lines_short()
     ghost book: { Book }
     requires { IsLegal book }
     ensures { EachLine (HasAtMost (most_records (threads_of book.boot.lines))) book }
 {}
 
-/// An entry that does not receive is answered without a message.
+/// Law: the answer to an entry that does not receive has no message.
 pub fn answered_plain()
     ghost at: { Log × CoreId × ObjId × Entry }
     requires { receives at.3 ≡ false }

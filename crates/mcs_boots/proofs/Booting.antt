@@ -56,7 +56,7 @@ line-owes R (boot.Thread priority maximum root guard runs (Some s)) r h = h
 line-owes R (boot.Thread priority maximum root guard runs None) r h = h
 line-owes R _ r h = h
 
--- after a boot nobody is owed
+-- after a boot no thread is owed
 boot-unowed : (lines : List BootLine) (r : ObjId) → owed_by (boot_log lines) r ≡ None
 unfolding boot_log
 boot-unowed [] r = refl
@@ -255,7 +255,7 @@ pub faultless-older : (cores : ℕ) (newer older : List BootLine) → AreFaultle
 faultless-older cores [] older h = h
 faultless-older cores (line ∷ newer) older h = faultless-older cores newer older h.1
 
--- in a boot without fault nothing is wrong with a line after those before it
+-- in a boot without fault there is no fault in a line after those before it
 pub faultless-at : (cores : ℕ) (lines inside : List BootLine) (i : ℕ) (d : BootLine) → inside ≡ reverse lines → AreFaultless cores lines → i < length inside
     → IsTrue (is_ok (boot_check cores (boot_log (reverse (take i inside))) (get_or inside i d)))
 faultless-at cores lines inside i d e h lt =

@@ -13,7 +13,7 @@ use Rattle.mcs_book.specs.Logs.{Log}
 use Rattle.mcs_book.specs.Objects.{was_closed}
 use Rattle.mcs_book.specs.Replies.{owed_by}
 
--- nothing was closed, and nobody is owed an answer
+-- nothing was closed, and no thread is owed an answer
 pub record IsBooting (R : Log) : Type 0 where
   pub alive : (o : ObjId) → was_closed R o ≡ false
   pub unowed : (r : ObjId) → owed_by R r ≡ None
@@ -22,7 +22,7 @@ pub record IsBooting (R : Log) : Type 0 where
 abbrev pub adds_line : Boot → BootLine → Boot
 adds_line b line = record b { lines = line ∷ b.lines }
 
--- what is wrong with a line after those of a boot
+-- the fault of a line after those of a boot
 abbrev pub line_check : Boot → BootLine → Result Passed BootFault
 line_check b line = boot_check b.cores (boot_log b.lines) line
 

@@ -1,4 +1,4 @@
-//! The boot: how a machine begins (own).
+//! The boot, the initial state of a machine (own).
 ghost use Rattle.std.specs.Prelude.{◌≡◌, ◌<◌, ◌⊎◌, ◌↔◌, [], IsTrue, IfOk, IfErr, OnOk, OnErr, Err, is_ok, reverse};
 ghost use Rattle.mcs_types.specs.declared.boot.BootFault.{BootFault};
 ghost use Rattle.mcs_book.specs.Logs.{counted};
@@ -21,12 +21,12 @@ use std::alloc::Global;
 use std::marker::Model;
 use taking::takes_line;
 
-/// How a machine begins: the number of cores, and lines with which nothing is wrong (own). Clauses
-/// see the lines newest first.
+/// The initial state of a machine: the number of cores, and checked lines (own). Clauses see the
+/// lines newest first.
 #[derive(Drop)]
 pub struct Boot {
-    // No thread waits yet, so these lines stay empty, and no room for links is cleared twice; nor
-    // is one for all tallies.
+    // No thread waits yet, so these lines stay empty, and the memory for links and tallies is not
+    // cleared twice.
     state: State<ObjectQueues<PlainLines>>,
 }
 
@@ -43,8 +43,8 @@ impl Model for Boot {
 }
 
 impl Boot {
-    /// A boot with this number of cores and no other line. Number (3) exactly where there is no
-    /// core, or there are more than 16; otherwise it fails only out of memory (10).
+    /// A boot with this number of cores and no other line. Number (3) exactly if there is no core,
+    /// or there are more than 16; otherwise it fails only out of memory (10).
     pub fn new(alloc: Global, cores: u8) -> Result<Boot, BootFault>
         ensures cores { IfOk result (λ b. b.cores ≡ cores) }
         ensures lines { IfOk result (λ b. b.lines ≡ []) }
@@ -63,7 +63,7 @@ impl Boot {
     /// Adds a line. The boot is as it was where a number is out of its range (3), an object that
     /// the line names was not made (4), there are too many objects (5), or a slot is filled, a
     /// context is held, or a thread or a notification is bound already (6): the first of these; or
-    /// where memory is refused (10).
+    /// if an allocation fails (10).
     pub fn add(&mut self, line: BootLine) -> Result<(), BootFault>
         ensures ok { OnOk result (self.new ≡ adds_line self.old line) }
         ensures err { OnErr result (self.new ≡ self.old) }
@@ -92,14 +92,14 @@ impl Boot {
         self.state.book().boot()
     }
 
-    /// How many objects of a kind were made.
+    /// Returns how many objects of a kind were made.
     pub fn made(&self, kind: Kind) -> u32
         ensures { result ≡ counted (makes_kind kind) (boot_log self.now.lines) }
     {
         self.state.made(kind)
     }
 
-    /// How many bits name a slot of a CNode; None where it was not made.
+    /// Returns how many bits name a slot of a CNode; None if it was not made.
     pub fn radix(&self, cnode: ObjId) -> Option<u8>
         ensures { result ≡ radix_made self.now cnode }
     {
@@ -109,14 +109,14 @@ impl Boot {
         Some(self.state.radix(cnode))
     }
 
-    /// Proves that nothing is wrong with the boot.
+    /// Proves that each line of the boot passed all checks.
     pub fn is_faultless(&self)
         ensures { IsFaultless self.now }
     {
         let _ = &self.state;
     }
 
-    /// The book of the boot, which has no line of an entry.
+    /// Returns the book of the boot, which has no line of an entry.
     pub fn book(&self) -> &Book
         ensures boot { result.now.book.boot ≡ self.now }
         ensures faultless { IsFaultless self.now }
@@ -125,7 +125,7 @@ impl Boot {
         self.state.book()
     }
 
-    /// The same, with which the boot ends: its tables are dropped.
+    /// Returns the book of the boot, and drops the tables.
     pub fn into_book(self) -> Book
         ensures boot { result.book.boot ≡ self }
         ensures faultless { IsFaultless self }
@@ -136,7 +136,7 @@ impl Boot {
     }
 }
 
-/// A state after the lines of the boot of a book.
+/// Returns a state after the boot lines of a book.
 pub fn boot_state<W: Waiting>(alloc: Global, book: &Book) -> Result<State<W>, OutOfMemory>
     requires { IsFaultless book.now.book.boot }
     ensures book { IfOk result (λ s. s.book ≡ record { boot = book.now.book.boot; lines = [] }) }

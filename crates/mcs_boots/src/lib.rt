@@ -1,4 +1,4 @@
-//! The boot: how a machine begins.
+//! The boot, the initial state of a machine.
 #![tactic(auto)]
 
 mod boot;

@@ -36,7 +36,7 @@ row-badged R core t a = rw (object-is R t kind.Endpoint a) (go (kinded kind.Endp
     go (Err why) = refl
     go (Ok c) = test (has_right 15 c) c
 
--- nobody sends and nobody leaves a queue where a thread wakes, so the same senders restart
+-- no thread sends and no thread leaves a queue where a thread wakes, so the same senders restart
 pub woken-badged : (n m : Now) (t : ObjId) (cap : Cap) → Makes (wakes (mode_of (so_far n) t) t) n m → restarts_badged (so_far m) cap ≡ restarts_badged (so_far n) cap
 unfolding open_of
 woken-badged n m t cap is = ap (λ S. restarts_badged S cap) (so_far-made (wakes (mode_of (so_far n) t) t) n m is) ∙ go (so_far n) (mode_of (so_far n) t)

@@ -135,7 +135,7 @@ pub nobody : (o : Option ObjId) → ((x : ObjId) → o ≡ Some x → ⊥) → o
 nobody None h = refl
 nobody (Some x) h = absurd (h x refl)
 
--- at the end nobody is there
+-- at the end no thread is there
 pub emptied : (R : Log) (q : Queue) → Sound R → first_in R q ≡ None → IsEmptyLine R q
 emptied R q sound none y at = subst (λ xs. In y xs) (headless (queued_in R q) (sym (first-head R q) ∙ none)) (line-in R q y sound at)
 

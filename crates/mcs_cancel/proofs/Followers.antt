@@ -46,7 +46,7 @@ heads : (y : ObjId) (zs : List ObjId) → (In y zs → ⊥) → IfSome (head_of 
 heads y [] h = tt
 heads y (z ∷ zs) h = λ e. h (inl (sym e))
 
--- nobody is removed who is not there
+-- no thread is removed who is not there
 pub removed-none : (x : ObjId) (xs : List ObjId) → (In x xs → ⊥) → removed x xs ≡ xs
 removed-none x [] h = refl
 removed-none x (y ∷ ys) h = rw (same-other x y (λ e. h (inl e))) (ap (λ zs. y ∷ zs) (removed-none x ys (λ i. h (inr i))))

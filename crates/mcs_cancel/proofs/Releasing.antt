@@ -34,7 +34,7 @@ pub cancelled-idle : (R : Log) (x : ObjId) (mode : Mode) → Sound R → IsThere
 unfolding cancel
 cancelled-idle R x mode sound there = then-next (λ S. IsIdle S x) (leave R x (queue_of R x)) (say (rec.Turns x mode)) R (left-turns R x mode sound there).1
 
--- a cancellation binds nobody
+-- a cancellation binds no thread
 binding-kept : (R : Log) (x o : ObjId) (mode : Mode) → bound_of (onto (cancel x mode R) R) o ≡ bound_of R o
 binding-kept R x o mode = outlasts-cancel (λ S. bound_of S o ≡ bound_of R o) x mode (record { dropped = λ S m h. h; parts = λ S q h. h; voided = λ S r h. h; turns = λ S h. h }) R refl
 
@@ -64,7 +64,7 @@ released F t R f h = go (context_of R t)
     go None = h
     go (Some s) = f s h
 
--- and that nobody is bound to a notification any more
+-- and that no thread is bound to a notification any more
 freed : (F : Log → Type 0) (n : ObjId) (R : Log) → ((t : ObjId) → F R → F (rec.Tied t None ∷ R)) → F R → F (onto (frees n R) R)
 freed F n R f h = go (tied_to R n)
   where
@@ -91,7 +91,7 @@ thread-is o R = holds ties
     holds : (cancel o Inactive then unties o) R ≡ (cancel o Inactive then with_any (bound_of R o) (λ n. say (rec.Tied o None))) R → ((cancel o Inactive then unties o) then lets_go o) R ≡ release R o kind.Thread R
     holds is = ap (λ s. (cancel o Inactive then unties o) R ++ let_go s (onto ((cancel o Inactive then unties o) R) R)) keeps ∙ ap (λ made. made ++ let_go (context_of R o) (onto made R)) is
 
--- nobody is left with it
+-- no thread is left with it
 pub thread-released : (R S T : Log) (o : ObjId) → IsIdle R o → S ≡ onto (unties o R) R → T ≡ onto (lets_go o S) S → bound_of S o ≡ None → IsIdle T o × (bound_of T o ≡ None)
 thread-released R S T o idle is next none =
     let one : IsIdle S o = subst (λ L. IsIdle L o) (sym is) (untied (λ L. IsIdle L o) o R (λ h. (h.0, h.1)) idle) in
@@ -110,12 +110,13 @@ homes-kept : (R : Log) (xs : List ObjId) (n : ObjId) (mode : Mode) → homed_at 
 unfolding homed_at
 homes-kept R xs n mode = outlasts-cancel_all (λ S. homed_at S n ≡ homed_at R n) xs mode (λ x. record { dropped = λ S m h. h; parts = λ S q h. h; voided = λ S r h. h; turns = λ S h. h }) R refl
 
--- nor is anything homed elsewhere once nobody is bound
+-- nor is anything homed elsewhere once no thread is bound
 homed-freed : (R : Log) (n o : ObjId) → homed_at (onto (frees n R) R) o ≡ homed_at R o
 unfolding homed_at
 homed-freed R n o = freed (λ S. homed_at S o ≡ homed_at R o) n R (λ t h. h) refl
 
--- the end of a notification: its waiters restart, nobody is bound to it, and nothing is homed at it
+-- the end of a notification: its waiters restart, no thread is bound to it, and nothing is homed at
+-- it
 pub notification-is : (n : ObjId) (R : Log) → ((empties (Waiters n) then frees n) then clears n) R ≡ releases n kind.Notification R
 unfolding ◌then◌
 notification-is n R = homes ties
@@ -144,12 +145,12 @@ cleared F n R f h = go (homed_at R n)
 pub homed-alone : (R : Log) (n s : ObjId) → Sound R → home_of R s ≡ Some n → IsNoHome (rec.Homed s None ∷ R) n
 homed-alone R n s sound home c k = elim (set-split c s None (home_of R c) (Some n) k) [ inl (who, none) ↦ absurd cc | inr (other, still) ↦ same-never c s (home-one R c s n sound still home) other ]
 
--- nobody waits on it or is bound to it still
+-- no thread waits on it or is bound to it still
 pub still-unwatched : (R S : Log) (n : ObjId) → S ≡ onto (clears n R) R → IsEmptyLine R (Waiters n) → IsUnbound R n → IsEmptyLine S (Waiters n) × IsUnbound S n
 still-unwatched R S n is empty unbound = subst (λ L. IsEmptyLine L (Waiters n) × IsUnbound L n) (sym is) (cleared (λ L. IsEmptyLine L (Waiters n) × IsUnbound L n) n R (λ s h. h) (empty, unbound))
 
--- a context that is homed nowhere and held by nobody: what is recorded, and that it is still homed
--- nowhere
+-- a context that is homed nowhere and held by no thread: what is recorded, and that it is still
+-- homed nowhere
 pub unbind-is : (s : ObjId) (R : Log) → (unhomes s then unholds s) R ≡ unbind s R
 unfolding ◌then◌ unbind
 unbind-is s R = go (home_of R s)
@@ -166,11 +167,11 @@ still-homeless R S s is none = subst (λ L. home_of L s ≡ None) (sym is) (go (
     go None = none
     go (Some t) = none
 
--- nobody waits on it still
+-- no thread waits on it still
 pub still-nobody : (R S : Log) (n : ObjId) → S ≡ onto (frees n R) R → IsEmptyLine R (Waiters n) → IsEmptyLine S (Waiters n)
 still-nobody R S n is empty = subst (λ L. IsEmptyLine L (Waiters n)) (sym is) (freed (λ L. IsEmptyLine L (Waiters n)) n R (λ t h. h) empty)
 
--- an object ends once nobody is left with it
+-- an object ends once no thread is left with it
 pub destroy-is : (o : ObjId) (R : Log) → (releases o o.kind then say (rec.Closed o)) R ≡ destroy o R
 unfolding destroy ◌then◌
 destroy-is o R = refl

@@ -20,7 +20,7 @@ use Rattle.mcs_book.proofs.SoundLogs.KeptLaws.{owed-there, ended-idle}
 use Rattle.mcs_book.proofs.Threads.UserLaws.{receiver_with-named, unattended-parted}
 use Rattle.mcs_cancel.specs.Releasing.{releases, dismisses}
 
--- nobody is owed
+-- no thread is owed
 pub void-nobody : (R : Log) (r : ObjId) → owed_by R r ≡ None → void_deleted r R ≡ []
 unfolding void_deleted
 void-nobody R r none = rw none refl
@@ -40,7 +40,7 @@ receiver-cancelled : (R : Log) (x e : ObjId) → queue_of R x ≡ Some (Receiver
 unfolding cancel ◌then◌
 receiver-cancelled R x e at = ap (λ q. onto ((leave R x q then say (rec.Turns x Inactive)) R) R) at
 
--- nobody receives with a reply object whose receiver was cancelled
+-- no thread receives with a reply object whose receiver was cancelled
 pub dismissed : (R : Log) (r x : ObjId) → Sound R → receiver_with R r ≡ Some x → IsUnattended (onto (cancel x Inactive R) R) r
 dismissed R r x sound found =
     let ((e, at), with) = receiver_with-named R r x found in
@@ -51,7 +51,7 @@ pub reply-is : (r : ObjId) (R : Log) → (dismisses r then void_deleted r) R ≡
 unfolding ◌then◌
 reply-is r R = refl
 
--- nobody is left with it: nobody receives with it still, and it owes nobody
+-- no thread is left with it: no thread receives with it still, and it owes no thread
 pub reply-released : (R S : Log) (r : ObjId) → S ≡ onto (void_deleted r R) R → IsUnattended R r → IsFreeReply S r
 reply-released R S r is h = subst (λ L. IsFreeReply L r) (sym is) (void-free r R, outlasts-void (λ L. IsUnattended L r) kept r R h)
   where

@@ -42,7 +42,7 @@ frees n R = untie (tied_to R n) R
 abbrev pub clears : ObjId → Piece
 clears n R = unhome (homed_at R n) R
 
--- s is homed nowhere any more, and then held by nobody
+-- s is homed nowhere any more, and then held by no thread
 abbrev pub unhomes : ObjId → Piece
 unhomes s R = with_any (home_of R s) (λ n. say (Homed s None)) R
 

@@ -16,7 +16,7 @@ use mcs_object_queues::Waiting;
 use mcs_state::{State, of_kind, wake};
 use mcs_types::{ALL_RIGHTS, Badge, Cap, CoreId, Kind, Letter, Mode, ObjId, Queue, Refusal};
 
-/// Whether there is a message, and it has this badge.
+/// Returns whether there is a message, and it has this badge.
 fn has_badge(letter: Option<&Letter>, badge: Badge) -> bool
     ensures { result ≡ has_badge badge.0 (option_copied letter.entry) }
 {
@@ -55,8 +55,8 @@ fn restart_senders<W: Waiting>(state: &mut State<W>, endpoint: ObjId, badge: Bad
     }
 }
 
-/// Cancels each sender of an endpoint whose open message has the badge of a capability to it;
-/// nobody where that is 0.
+/// Cancels each sender of an endpoint whose open message has the badge of a capability to it; no
+/// thread if that is 0.
 fn restart_badged<W: Waiting>(state: &mut State<W>, cap: Cap)
     requires room { HasRoomFor (restarts_badged (so_far state.old) cap) state.old }
     ensures { Makes (restarts_badged (so_far state.old) cap) state.old state.new }
@@ -66,8 +66,7 @@ fn restart_badged<W: Waiting>(state: &mut State<W>, cap: Cap)
     }
 }
 
-/// The capability whose badge a thread that is there cancels: one to an endpoint, with all four
-/// rights.
+/// The capability whose badge an existing thread cancels: one to an endpoint, with all four rights.
 fn badged_endpoint<W: Waiting>(
     state: &State<W>,
     thread: ObjId,
@@ -84,8 +83,8 @@ fn badged_endpoint<W: Waiting>(
 }
 
 /// Performs CancelBadged: each queued sender whose message has the badge of the capability
-/// restarts, and its message is dropped; badge 0 cancels nobody. The refusals are 1 to 3 of the
-/// lookup, 4 for a capability of another kind, and 5 where one of the four rights is missing; they
+/// restarts, and its message is dropped; badge 0 cancels no thread. The refusals are 1 to 3 of the
+/// lookup, 4 for a capability of another kind, and 5 if one of the four rights is missing; they
 /// change nothing (manual: Capability Spaces; Message Passing).
 pub fn cancel_badged<W: Waiting>(
     state: &mut State<W>,

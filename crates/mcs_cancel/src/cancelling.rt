@@ -1,4 +1,4 @@
-//! What a thread is blocked on, and how it leaves that.
+//! Removes a thread from what it is blocked on.
 ghost use Rattle.std.specs.Prelude.{◌≡◌, Some, None};
 ghost use Rattle.mcs_types.specs.declared.id.Kind.{Kind};
 ghost use Rattle.mcs_book.specs.Cancelling.{cancel as cancelled};
@@ -12,8 +12,8 @@ use mcs_object_queues::Waiting;
 use mcs_state::State;
 use mcs_types::{Ending, Mode, ObjId, Queue, Status};
 
-/// Drops the open message of a thread that leaves this queue, where it sends there: nobody receives
-/// it (own).
+/// Drops the open message of a thread that leaves this queue, if it is the queue of senders: no
+/// thread receives it (own).
 fn drop_letter<W: Waiting>(state: &mut State<W>, thread: ObjId, queue: Queue)
     requires room { HasRoomFor (drops_from thread queue) state.old }
     ensures { Makes (drops_from thread queue) state.old state.new }
@@ -40,7 +40,7 @@ fn leave_queue<W: Waiting>(state: &mut State<W>, thread: ObjId, queue: Queue)
     state.parts(thread, queue);
 }
 
-/// The reply object on which a thread of this status waits, if it waits on one.
+/// Returns the reply object on which a thread of this status is blocked, if any.
 fn reply_awaited(status: Option<Status>) -> Option<ObjId>
     ensures { result ≡ reply_awaited status }
 {
@@ -78,9 +78,9 @@ fn leave<W: Waiting>(state: &mut State<W>, thread: ObjId)
     }
 }
 
-/// Cancels what a thread is blocked on, and sets its mode: a queued sender's message is dropped, a
-/// thread leaves its queue, and the reply object that owes a caller owes nobody any more; its chain
-/// loses it and what lies below (own; manual: Threads and Execution).
+/// Cancels what a thread is blocked on, and sets its mode: a queued sender's message is dropped,
+/// the thread leaves its queue, and the reply object that owes it a reply owes none any more, and
+/// leaves its chain with all below it (own; manual: Threads and Execution).
 pub fn cancel<W: Waiting>(state: &mut State<W>, thread: ObjId, mode: Mode)
     requires there { IsThere (so_far state.old) Kind.Thread thread }
     requires room { HasRoomFor (cancelled thread mode) state.old }

@@ -1,4 +1,4 @@
-//! What is tested before anything is done.
+//! The checks before any change.
 ghost use Rattle.std.specs.Prelude.{◌≡◌, IfOk};
 ghost use Rattle.mcs_types.specs.declared.id.Kind.{Kind};
 ghost use Rattle.mcs_book.specs.Sound.{IsThere};
@@ -10,7 +10,7 @@ use mcs_object_queues::Waiting;
 use mcs_state::{State, find_object};
 use mcs_types::{Kind, ObjId, Prio, Refusal};
 
-/// The thread that a thread that is there names by an address; it is there too.
+/// Returns the thread that an existing thread names by an address.
 pub fn find_thread<W: Waiting>(
     state: &State<W>,
     thread: ObjId,
@@ -24,8 +24,8 @@ pub fn find_thread<W: Waiting>(
     find_object(state, thread, Kind::Thread, address)
 }
 
-/// The thread to which a priority is given, where it is at most the maximum controlled priority of
-/// the authority.
+/// Returns the thread whose priority is set, if the priority is at most the authority's maximum
+/// controlled priority.
 pub fn thread_to_set<W: Waiting>(
     state: &State<W>,
     thread: ObjId,

@@ -1,4 +1,4 @@
-//! The end of an object that no slot names any more (own; manual: Capability Spaces, deletion).
+//! Destroys an object that no slot names any more (own; manual: Capability Spaces, deletion).
 ghost use Rattle.std.specs.Prelude.{◌≡◌, None, IsTrue};
 ghost use Rattle.mcs_types.specs.declared.id.Kind.{Kind};
 ghost use Rattle.mcs_types.specs.declared.record.Queue.{Queue};
@@ -17,7 +17,8 @@ use mcs_object_queues::Waiting;
 use mcs_state::{State, give_back};
 use mcs_types::{Ending, Kind, Mode, ObjId, Queue};
 
-/// Cancels each thread of a queue, first to last: it restarts. Nobody is there then.
+/// Cancels each thread of a queue, first to last, so that it restarts. The queue is empty
+/// afterwards.
 fn restart_all<W: Waiting>(state: &mut State<W>, queue: Queue)
     requires room { HasRoomFor (restarts_all (so_far state.old) queue) state.old }
     ensures made { Makes (restarts_all (so_far state.old) queue) state.old state.new }
@@ -42,7 +43,7 @@ fn release_endpoint<W: Waiting>(state: &mut State<W>, endpoint: ObjId)
     state.is_sound();
 }
 
-/// Unbinds the thread of a notification, if one is bound.
+/// Unbinds the thread bound to a notification, if any.
 fn free<W: Waiting>(state: &mut State<W>, notification: ObjId)
     requires room { HasRoomFor (frees notification) state.old }
     ensures made { Makes (frees notification) state.old state.new }
@@ -117,7 +118,7 @@ fn release_thread<W: Waiting>(state: &mut State<W>, thread: ObjId)
     let_go(state, thread);
 }
 
-/// Takes the thread that receives with a reply object, if one does, out of its queue, and makes it
+/// Takes the thread that receives with a reply object, if any, out of its queue, and makes it
 /// Inactive.
 fn dismiss<W: Waiting>(state: &mut State<W>, reply: ObjId)
     requires room { HasRoomFor (dismisses reply) state.old }
@@ -131,8 +132,8 @@ fn dismiss<W: Waiting>(state: &mut State<W>, reply: ObjId)
     }
 }
 
-/// Voids what a reply object owes, if it owes: the caller becomes Inactive, and the context whose
-/// chain the reply object topped returns to it.
+/// Voids the debt of a reply object, if it has one: the caller becomes Inactive. If the reply
+/// object topped the chain of a context, that returns to the caller.
 fn void_deleted<W: Waiting>(state: &mut State<W>, reply: ObjId)
     requires room { HasRoomFor (voided reply) state.old }
     ensures { Makes (voided reply) state.old state.new }
@@ -148,7 +149,7 @@ fn void_deleted<W: Waiting>(state: &mut State<W>, reply: ObjId)
     }
 }
 
-/// Dismisses the thread that receives with a reply object, and voids what it owes.
+/// Dismisses the receiver queued with a reply object, and voids the debt.
 fn release_reply<W: Waiting>(state: &mut State<W>, reply: ObjId)
     requires room { HasRoomFor (releases reply Kind.Reply) state.old }
     ensures made { Makes (releases reply Kind.Reply) state.old state.new }
@@ -158,7 +159,7 @@ fn release_reply<W: Waiting>(state: &mut State<W>, reply: ObjId)
     void_deleted(state, reply);
 }
 
-/// Homes a context nowhere.
+/// Unhomes a context.
 fn unhome<W: Waiting>(state: &mut State<W>, context: ObjId)
     requires room { HasRoomFor (unhomes context) state.old }
     ensures made { Makes (unhomes context) state.old state.new }
@@ -182,7 +183,7 @@ fn unhold<W: Waiting>(state: &mut State<W>, context: ObjId)
     }
 }
 
-/// Homes a context nowhere, and takes it from its holder (own).
+/// Unhomes a context, and takes it from its holder (own).
 pub fn unbind<W: Waiting>(state: &mut State<W>, context: ObjId)
     requires room { HasRoomFor (unbound context) state.old }
     ensures made { Makes (unbound context) state.old state.new }
@@ -192,7 +193,7 @@ pub fn unbind<W: Waiting>(state: &mut State<W>, context: ObjId)
     unhold(state, context);
 }
 
-/// Homes a context nowhere, and takes it from its holder.
+/// Unhomes a context, and takes it from its holder.
 fn release_context<W: Waiting>(state: &mut State<W>, context: ObjId)
     requires room { HasRoomFor (releases context Kind.Context) state.old }
     ensures made { Makes (releases context Kind.Context) state.old state.new }
@@ -201,7 +202,7 @@ fn release_context<W: Waiting>(state: &mut State<W>, context: ObjId)
     unbind(state, context);
 }
 
-/// Frees an object that is there of all that use it.
+/// Frees an existing object from all that uses it.
 fn release_object<W: Waiting>(state: &mut State<W>, object: ObjId)
     requires there { IsTrue (is_alive (so_far state.old) object) }
     requires kind { IsNoCNode object }
@@ -219,8 +220,8 @@ fn release_object<W: Waiting>(state: &mut State<W>, object: ObjId)
     }
 }
 
-/// Destroys an object that no slot names any more: what waits for it or holds it is cancelled or
-/// let go, and it ends (own; manual: Capability Spaces, deletion).
+/// Destroys an object that no slot names any more: threads blocked on it are cancelled, what holds
+/// it is released, and it is closed (own; manual: Capability Spaces, deletion).
 pub fn destroy<W: Waiting>(state: &mut State<W>, object: ObjId)
     requires there { IsTrue (is_alive (so_far state.old) object) }
     requires kind { IsNoCNode object }

@@ -1,5 +1,5 @@
-//! What ends a thread's waiting, and what sets its mode and its priority (manual: Threads and
-//! Execution).
+//! Cancelling what a thread is blocked on, and setting its mode and its priority (manual: Threads
+//! and Execution).
 #![tactic(auto)]
 
 mod badged;

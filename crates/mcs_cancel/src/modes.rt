@@ -17,7 +17,7 @@ use mcs_object_queues::Waiting;
 use mcs_state::{State, wake};
 use mcs_types::{CoreId, Mode, ObjId, Refusal, Status};
 
-/// Cancels what a thread is blocked on, and sets its mode, where one is given.
+/// Cancels what a thread is blocked on, and sets its mode, if a mode is given.
 fn cancel_any<W: Waiting>(state: &mut State<W>, thread: ObjId, mode: Option<Mode>)
     requires there { IsThere (so_far state.old) Kind.Thread thread }
     requires room { HasRoomFor (with_any mode (cancelled thread)) state.old }
@@ -29,7 +29,7 @@ fn cancel_any<W: Waiting>(state: &mut State<W>, thread: ObjId, mode: Option<Mode
     }
 }
 
-/// Wakes the thread that enters, and sets the mode of the one that it names, where one is given.
+/// Wakes the entering thread, and sets the mode of the thread that it names, if a mode is given.
 fn set_mode<W: Waiting>(state: &mut State<W>, thread: ObjId, named: ObjId, mode: Option<Mode>)
     requires entering { IsEntering (so_far state.old) thread }
     requires there { IsThere (so_far state.old) Kind.Thread named }
@@ -40,7 +40,7 @@ fn set_mode<W: Waiting>(state: &mut State<W>, thread: ObjId, named: ObjId, mode:
     cancel_any(state, named, mode);
 }
 
-/// The mode to which a thread of this status is resumed: none where it can run.
+/// Returns the mode that Resume gives a thread of this status: None if it can run already.
 fn mode_resumed(status: Option<Status>) -> Option<Mode>
     ensures { result ≡ mode_resumed status }
 {

@@ -12,7 +12,7 @@ use mcs_types::{CoreId, ObjId, Prio, Refusal};
 
 /// Performs SetPriority: the thread gets this priority; a thread in a queue is queued anew (own).
 /// The refusals are 1 to 3 of the lookups, the thread's first, 4 for a capability of another kind,
-/// and 6 where the priority is above the maximum controlled priority of the authority; they change
+/// and 6 if the priority is above the maximum controlled priority of the authority; they change
 /// nothing (manual: Threads and Execution).
 pub fn set_priority<W: Waiting>(
     state: &mut State<W>,

@@ -15,7 +15,7 @@ use Rattle.mcs_caps.specs.declared.checks.Placing.{Placing}
 abbrev pub places_of : Placing → Places
 places_of at = record { cap = at.cap; source = name_of at.source; dest = name_of at.dest }
 
--- so with their refusals
+-- the places as found by numbers, or the refusal
 abbrev pub placed_by : Checked Placing → Checked Places
 placed_by (Ok at) = Ok (places_of at)
 placed_by (Err why) = Err why

@@ -1,4 +1,4 @@
-//! What is tested before anything is done.
+//! The checks before any change.
 ghost use Rattle.std.specs.Prelude.{◌≡◌, IfOk};
 ghost use Rattle.mcs_book.specs.Placing.{source_and_dest};
 ghost use Rattle.mcs_state.specs.Entering.{IsEntering};
@@ -11,7 +11,7 @@ use mcs_slots::{SlotId, by_fields, takes_badge};
 use mcs_state::State;
 use mcs_types::{Cap, ObjId, Place, Refusal};
 
-/// A capability, the slot that holds it, and an empty slot.
+/// A capability, the slot that holds it, and an empty slot to put it in.
 #[derive(Clone, Copy)]
 pub struct Placing {
     pub cap: Cap,
@@ -19,7 +19,7 @@ pub struct Placing {
     pub dest: SlotId,
 }
 
-/// The capability that a thread names by its place, and the empty slot that it names.
+/// Returns the capability and the empty slot that a thread names by two places.
 #[inline(always)]
 pub fn find_places<W: Waiting>(
     state: &State<W>,
@@ -33,7 +33,7 @@ pub fn find_places<W: Waiting>(
 {
     state.is_sound();
     let source = state.slot_named(thread, source)?;
-    // Read here, so that the processor need not wait for it when it has found the other slot.
+    // Read early, so that the load overlaps with the second lookup.
     let held = state.slot(source);
     let dest = state.slot_named(thread, dest)?;
     let Some(cap) = held else {
@@ -49,7 +49,8 @@ pub fn find_places<W: Waiting>(
     })
 }
 
-/// What was found, where a badge may be set on it.
+/// Returns what was found if a badge may be set on it: else WrongKind if its kind carries none, or
+/// BadgeNotAllowed if it has one.
 pub fn with_no_badge(found: Result<Placing, Refusal>) -> Result<Placing, Refusal>
     ensures { result ≡ mintable found }
 {

@@ -14,9 +14,8 @@ use mcs_slots::{with_badge, with_mask};
 use mcs_state::{State, wake};
 use mcs_types::{Badge, Cap, CoreId, ObjId, Place, Refusal, Rights};
 
-/// Wakes the thread, and puts a capability to the object of the one that was found into the empty
-/// slot.
-// a part of its callers, so that what was found does not go through memory
+/// Wakes the thread, and puts a capability to the found object into the empty slot.
+// inlined, so that what was found stays in registers
 #[inline(always)]
 fn fill<W: Waiting>(state: &mut State<W>, thread: ObjId, at: &Placing, cap: Cap)
     requires entering { IsEntering (so_far state.old) thread }
@@ -30,7 +29,7 @@ fn fill<W: Waiting>(state: &mut State<W>, thread: ObjId, at: &Placing, cap: Cap)
     state.fills(at.dest, Some(cap));
 }
 
-/// Wakes the thread, puts the capability that was found into the empty slot, and empties its own.
+/// Wakes the thread, and moves the found capability into the empty slot.
 fn shift<W: Waiting>(state: &mut State<W>, thread: ObjId, at: &Placing)
     requires entering { IsEntering (so_far state.old) thread }
     requires placed { IsPlaced (so_far state.old) at.now }
@@ -45,8 +44,8 @@ fn shift<W: Waiting>(state: &mut State<W>, thread: ObjId, at: &Placing)
 
 /// Performs CopyCap: the slot at the destination gets the capability at the source, with those of
 /// its rights that are asked for. The refusals are 6, 2 and 3 of the source's and then of the
-/// destination's lookup, 8 where the source is empty, and 7 where the destination is full; they
-/// change nothing (manual: Capability Spaces).
+/// destination's lookup, 8 if the source is empty, and 7 if the destination is full; they change
+/// nothing (manual: Capability Spaces).
 pub fn copy_cap<W: Waiting>(
     state: &mut State<W>,
     core: CoreId,
@@ -66,7 +65,7 @@ pub fn copy_cap<W: Waiting>(
 }
 
 /// Performs MintCap: as CopyCap, and the capability gets a badge. It is refused like CopyCap, and
-/// then with 4 where the source is to no endpoint or notification and with 12 where it is badged,
+/// then with 4 if the source is to no endpoint or notification and with 12 where it is badged,
 /// whatever badge is asked for (manual: Capability Spaces).
 pub fn mint_cap<W: Waiting>(
     state: &mut State<W>,

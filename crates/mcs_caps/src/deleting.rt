@@ -19,7 +19,7 @@ use mcs_slots::SlotId;
 use mcs_state::{State, wake};
 use mcs_types::{Cap, CoreId, Kind, ObjId, Place, Refusal};
 
-/// Whether it is the last capability to a CNode.
+/// Returns whether a slot holds the last capability to a CNode.
 fn is_last_cnode<W: Waiting>(state: &State<W>, held: Option<Cap>) -> bool
     ensures { result ≡ is_last_cnode (so_far state.now) held }
 {
@@ -29,7 +29,7 @@ fn is_last_cnode<W: Waiting>(state: &State<W>, held: Option<Cap>) -> bool
     }
 }
 
-/// The slot that a thread names, where it does not hold the last capability to a CNode.
+/// Returns the slot that a thread names, unless it holds the last capability to a CNode.
 fn find_deletable<W: Waiting>(
     state: &State<W>,
     thread: ObjId,
@@ -47,8 +47,8 @@ fn find_deletable<W: Waiting>(
     Ok(at.by_fields())
 }
 
-/// Destroys an object that is there, where no slot names it any more; this is never asked of a
-/// CNode that no slot names.
+/// Destroys an existing object if no slot names it any more. Callers never pass a CNode without
+/// slots that name it.
 fn destroy_last<W: Waiting>(state: &mut State<W>, object: ObjId)
     requires there { IsTrue (is_alive (so_far state.old) object) }
     requires kind { count_of (so_far state.old) object ≡ 0 → IsNoCNode object }
@@ -60,7 +60,7 @@ fn destroy_last<W: Waiting>(state: &mut State<W>, object: ObjId)
     }
 }
 
-/// Empties a slot, and destroys the object to which it held the last capability.
+/// Empties a slot, and destroys the object if that was the last capability to it.
 fn take_out<W: Waiting>(state: &mut State<W>, at: SlotId, cap: Cap)
     requires slot { IsSlot (so_far state.old) at }
     requires held { slot (so_far state.old) at.cnode at.index ≡ Some cap }

@@ -17,7 +17,7 @@ use mcs_slots::SlotId;
 use mcs_state::{State, wake};
 use mcs_types::{ALL_RIGHTS, Badge, Cap, CoreId, Guard, Kind, ObjId, Place, Refusal, Rights};
 
-/// The capability that comes with an object: one with all rights where its kind carries rights.
+/// Returns the first capability to a new object: with all rights if its kind carries rights.
 fn new_cap(object: ObjId) -> Cap
     ensures { result ≡ new_cap object }
 {
@@ -36,7 +36,8 @@ fn new_cap(object: ObjId) -> Cap
     }
 }
 
-/// The slot that a thread names, where it is empty, and one more object of a kind may be there.
+/// Returns the slot that a thread names, if it is empty and there is room for one more object of a
+/// kind.
 fn find_vacant<W: Waiting>(
     state: &State<W>,
     thread: ObjId,
@@ -59,7 +60,7 @@ fn find_vacant<W: Waiting>(
     Ok(at.by_fields())
 }
 
-/// Makes an object of a kind; a context is of this core.
+/// Makes an object of a kind; a context belongs to this core.
 fn add<W: Waiting>(state: &mut State<W>, kind: Kind, core: CoreId)
     requires kind { has_limit kind ≡ true }
     requires allowed { MayMake (so_far state.old) kind (new_form kind core) }
@@ -92,7 +93,7 @@ fn make_at<W: Waiting>(state: &mut State<W>, core: CoreId, kind: Kind, at: SlotI
     state.fills(at, Some(new_cap(object)));
 }
 
-/// Wakes the thread, and makes an object of a kind with a capability in an empty slot.
+/// Wakes the thread, and makes an object of a kind with a capability to it in an empty slot.
 fn make_awake<W: Waiting>(state: &mut State<W>, core: CoreId, thread: ObjId, kind: Kind, at: SlotId)
     requires kind { has_limit kind ≡ true }
     requires form { IsFormOf kind (new_form kind core) }
@@ -109,8 +110,8 @@ fn make_awake<W: Waiting>(state: &mut State<W>, core: CoreId, thread: ObjId, kin
 /// Performs MakeEndpoint, MakeNotification, MakeReply and MakeContext: an object of a kind is made,
 /// and the slot gets a capability to it, with all rights to an endpoint or a notification, and with
 /// none to another. A context is of the core on which the thread enters, one of the 16 that there
-/// may be. The refusals are 6, 2 and 3 of the slot's lookup, 7 where it is full, and 11 where 256
-/// objects of the kind are there; they change nothing (own; manual: Capability Spaces).
+/// may be. The refusals are 6, 2 and 3 of the slot's lookup, 7 if it is full, and 11 if 256 objects
+/// of the kind exist; they change nothing (own; manual: Capability Spaces).
 pub fn make<W: Waiting>(
     state: &mut State<W>,
     core: CoreId,

@@ -155,7 +155,7 @@ holds-holder v s t one h x = go (context_in v x) refl
         again true f = let a = same-equal u s f in let k : context_in v x ≡ Some s = cc in let l = one.held_by_holder s x k in let m : t ≡ x = cc in rw m (sym (same-self x))
         again false f = sym (same-other x t (λ p. let q : context_in v x ≡ Some s = rw p known in let a : s ≡ u = cc in let b = same-self u in absurd (let j : same u s ≡ true = rw a b in cc)))
 
--- who holds what, after a context was made that nobody holds
+-- who holds what, after a context was made that no thread holds
 pub unheld : (old new : Objects ContextRow) (id : ObjId) (core : CoreId) → ((x : ObjId) → IsSome (value_at old x) → WasGiven old x) → id ≡ next_id old
     → ((x : ObjId) → value_at new x ≡ cond (same x id) (Some (record { core = core; holder = None; home = None })) (value_at old x)) → (x : ObjId) → holder_at new x ≡ holder_at old x
 unheld old new id core given is made x = ap (λ r. option_and_then (λ (r : ContextRow). r.holder) r) (made x) ∙ go (same x id) (value_at old x) refl refl

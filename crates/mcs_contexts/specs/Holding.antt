@@ -90,7 +90,7 @@ abbrev pub held_after : ObjId → Option ObjId → Option ObjId → Option ObjId
 held_after x None context o = o
 held_after x (Some t) context o = value_after x t context o
 
--- what a thread x holds, after s went from who held it to a thread, or to nobody
+-- what a thread x holds, after s went from who held it to a thread, or to no thread
 abbrev pub given_context : Holding → ObjId → Option ObjId → ObjId → Option ObjId
 given_context v s t x = held_after x t (Some s) (held_after x (holder_in v s) None (context_in v x))
 
@@ -115,28 +115,30 @@ is_holder t = same_kind t.kind Thread && nat_le 1 t.serial && nat_le t.serial 25
 abbrev pub may_lend : Holding → ObjId → ObjId → Bool
 may_lend v from to = is_some (context_in v from) && is_holder to && is_none (context_in v to)
 
--- done, where nobody holds the context, it is homed nowhere, and the thread holds none
+-- whether a thread can take a context: no thread holds it, it is homed nowhere, and the thread
+-- holds none; or the refusal
 abbrev pub joined : Holding → ObjId → ObjId → Result (Unit {0}) Refusal
 joined v s t = cond (is_some (holder_in v s) || is_some (home_in v s) || is_some (context_in v t)) (Err AlreadyBound) (Ok tt)
 
--- whether a context may wake with a thread: it is there and nobody holds it, and the thread may
+-- whether a context may wake with a thread: it is there and no thread holds it, and the thread may
 -- hold one and holds none
 abbrev pub may_wake : Holding → ObjId → ObjId → Bool
 may_wake v s t = is_some (core_in v s) && is_none (holder_in v s) && is_holder t && is_none (context_in v t)
 
--- so, where the context is there and the thread may hold one
+-- whether a context can be bound to a thread: also, the context is there and the thread may hold
+-- one; or the refusal
 abbrev pub bound : Holding → ObjId → ObjId → Result (Unit {0}) Refusal
 bound v s t = cond (is_none (core_in v s)) (Err Missing) (cond (is_holder t) (joined v s t) (Err Range))
 
--- done where somebody holds the context
+-- whether a context can be unbound: some thread holds it; or the refusal
 abbrev pub unbound : Holding → ObjId → Result (Unit {0}) Refusal
 unbound v s = cond (is_some (holder_in v s)) (Ok tt) (Err NotBound)
 
--- done, where the context is there and homed nowhere
+-- whether a context can be homed: it is there and homed nowhere; or the refusal
 abbrev pub homed : Holding → ObjId → Result (Unit {0}) Refusal
 homed v s = cond (is_none (core_in v s)) (Err Missing) (cond (is_some (home_in v s)) (Err AlreadyBound) (Ok tt))
 
--- done where the context is homed
+-- whether a context can leave its home: it has one; or the refusal
 abbrev pub unhomed : Holding → ObjId → Result (Unit {0}) Refusal
 unhomed v s = cond (is_some (home_in v s)) (Ok tt) (Err NotBound)
 

@@ -30,7 +30,7 @@ pub struct Contexts {
     held: Vec<Option<ObjId>>,
 }
 
-// By hand, so that it is a function of its own: a derived drop would be proved anew wherever it is
+// Written by hand as a separate function: a derived drop would be proved again wherever it is
 // dropped.
 impl Drop for Contexts {
     fn drop(self) {
@@ -48,7 +48,7 @@ impl Model for Contexts {
     ghost invariant = { λ s. IsHolding (record { rows = s.rows; held = s.held.items }) };
 }
 
-/// Keeps another holder of a context that is there, and returns the one before.
+/// Sets the holder of an existing context, and returns the one before.
 #[inline(always)]
 fn replace_holder(
     rows: &mut Store<ContextRow>,
@@ -68,7 +68,7 @@ fn replace_holder(
     }
 }
 
-/// Keeps another home of a context that is there.
+/// Sets the home of an existing context.
 #[inline(always)]
 fn set_home(rows: &mut Store<ContextRow>, context: ObjId, home: Option<ObjId>)
     requires { IsSome (core_at rows.old context) }
@@ -83,7 +83,7 @@ fn set_home(rows: &mut Store<ContextRow>, context: ObjId, home: Option<ObjId>)
     }
 }
 
-/// Whether it is a thread of a serial from 1 to 256, which alone may hold a context.
+/// Returns whether this is a thread with a serial from 1 to 256: only these may hold a context.
 fn is_holder(thread: ObjId) -> bool
     ensures value { result ≡ is_holder thread }
     ensures thread { OnTrue result (IsThread thread) }
@@ -92,7 +92,7 @@ fn is_holder(thread: ObjId) -> bool
 }
 
 impl Contexts {
-    /// No context, and room for 256 (own).
+    /// Returns a table with no context, and room for 256 (own).
     pub fn new(alloc: Global) -> Result<Contexts, OutOfMemory>
         ensures counts { IfOk result (λ v. counts v ≡ empty_shape Kind.Context 256) }
         ensures cores { IfOk result (λ v. (x : ObjId) → core_in v x ≡ None) }
@@ -113,7 +113,7 @@ impl Contexts {
         (rows, held)
     }
 
-    /// Clones the table in the memory of a spare one (own). OutOfMemory where memory is refused.
+    /// Clones the table in the memory of a spare one (own). `OutOfMemory` if an allocation fails.
     pub fn copy(&self, alloc: Global, spare: Option<Contexts>) -> Result<Contexts, OutOfMemory>
         ensures { IfOk result (λ t. t ≡ self.now) }
     {
@@ -130,16 +130,16 @@ impl Contexts {
         })
     }
 
-    /// What is kept of each context: how many were made and are there, and whether there is room
-    /// for one more (own).
+    /// Returns the row of each context; it tells how many were made and exist, and whether there is
+    /// room for one more (own).
     pub fn rows(&self) -> &Store<ContextRow>
         ensures { result.now ≡ self.now.rows }
     {
         &self.rows
     }
 
-    /// Adds a context of this core, with the next serial and no holder (own). The caller makes sure
-    /// that there is room: `rows` tell.
+    /// Adds a context of this core, with the next serial and no holder (own). There must be room,
+    /// which `rows` tells.
     pub fn add(&mut self, core: CoreId) -> ObjId
         requires { no_room self.old ≡ false }
         ensures id { result ≡ next_context self.old }
@@ -157,8 +157,8 @@ impl Contexts {
         })
     }
 
-    /// Forgets a context that is there, as `core` tells, and that nobody holds, as `holder` tells:
-    /// its serial is never reused (manual: Kernel Services and Objects).
+    /// Removes a context that exists and that no thread holds. Its serial is never reused (manual:
+    /// Kernel Services and Objects).
     pub fn close(&mut self, context: ObjId)
         requires there { IsSome (core_in self.old context) }
         requires free { holder_in self.old context ≡ None }
@@ -172,7 +172,7 @@ impl Contexts {
         self.rows.remove(context);
     }
 
-    /// The core of a context, or None where it was not made or was closed (manual: Threads and
+    /// The core of a context, or None if it was not made or was closed (manual: Threads and
     /// Execution).
     pub fn core(&self, context: ObjId) -> Option<CoreId>
         ensures { result ≡ core_in self.now context }
@@ -181,7 +181,7 @@ impl Contexts {
         Some(row.core)
     }
 
-    /// The thread that holds a context, or None where nobody does (manual: Threads and Execution).
+    /// The thread that holds a context, or None if no thread does (manual: Threads and Execution).
     pub fn holder(&self, context: ObjId) -> Option<ObjId>
         ensures { result ≡ holder_in self.now context }
     {
@@ -189,7 +189,7 @@ impl Contexts {
         row.holder
     }
 
-    /// The notification at which a context is homed, or None where it is homed nowhere (own).
+    /// The notification at which a context is homed, or None if it is homed nowhere (own).
     pub fn home_of(&self, context: ObjId) -> Option<ObjId>
         ensures { result ≡ home_in self.now context }
     {
@@ -197,8 +197,7 @@ impl Contexts {
         row.home
     }
 
-    /// The context that a thread holds, or None where it holds none (manual: Threads and
-    /// Execution).
+    /// The context that a thread holds, or None if it holds none (manual: Threads and Execution).
     pub fn of(&self, thread: ObjId) -> Option<ObjId>
         ensures { result ≡ context_in self.now thread }
     {
@@ -217,9 +216,9 @@ impl Contexts {
         let _ = &self.held;
     }
 
-    /// Gives a context that was made to this thread, which holds none, or takes it from its holder
-    /// (manual: Threads and Execution).
-    // a part of its callers, which know whether a thread is named
+    /// Gives an existing context to a thread that holds none, or takes it from its holder (manual:
+    /// Threads and Execution).
+    // inlined: callers know whether a thread is given
     #[inline(always)]
     pub fn give(&mut self, context: ObjId, thread: Option<ObjId>)
         requires made { IsSome (core_in self.old context) }
@@ -242,8 +241,8 @@ impl Contexts {
         }
     }
 
-    /// Gives a context to a thread. Refused, in this order, where the context was not made or was
-    /// closed (Missing; own), where the thread is none of a serial from 1 to 256 (Range; own), and
+    /// Gives a context to a thread. Refused, in this order, if the context was not made or was
+    /// closed (Missing; own), if the thread is none of a serial from 1 to 256 (Range; own), and
     /// where the context has a holder or a home, or the thread has a context (AlreadyBound): then
     /// nothing changes (manual: Threads and Execution).
     pub fn bind(&mut self, context: ObjId, thread: ObjId) -> Result<(), Refusal>
@@ -271,9 +270,9 @@ impl Contexts {
         Ok(())
     }
 
-    /// Gives a context to a thread, whether it is homed or not. False where the context was not
-    /// made or was closed, where it has a holder, and where the thread is none of a serial from 1
-    /// to 256 or has a context: then nothing changes (own).
+    /// Gives a context to a thread, whether it is homed or not. Returns false, and changes nothing,
+    /// if the context does not exist or has a holder, or the thread has a serial beyond 256 or
+    /// holds a context (own).
     pub fn wake(&mut self, context: ObjId, thread: ObjId) -> bool
         ensures answer { result ≡ may_wake self.old context thread }
         ensures refused { OnFalse result (self.new ≡ self.old) }
@@ -294,7 +293,7 @@ impl Contexts {
         true
     }
 
-    /// Takes a context from its holder. NotBound where nobody holds it: then nothing changes
+    /// Takes a context from its holder. `NotBound` if no thread holds it: then nothing changes
     /// (manual: Threads and Execution).
     pub fn unbind(&mut self, context: ObjId) -> Result<(), Refusal>
         ensures answer { result ≡ unbound self.old context }
@@ -315,8 +314,8 @@ impl Contexts {
         }
     }
 
-    /// Homes a context at a notification, whether it is held or not. Refused where the context was
-    /// not made or was closed (Missing), and where it is homed (AlreadyBound): then nothing changes
+    /// Homes a context at a notification, whether it is held or not. Refused if the context was not
+    /// made or was closed (Missing), and where it is homed (AlreadyBound): then nothing changes
     /// (own).
     pub fn home(&mut self, context: ObjId, notification: ObjId) -> Result<(), Refusal>
         ensures answer { result ≡ homed self.old context }
@@ -337,7 +336,7 @@ impl Contexts {
         }
     }
 
-    /// Takes a context from its home. NotBound where it is homed nowhere: then nothing changes
+    /// Takes a context from its home. `NotBound` if it is homed nowhere: then nothing changes
     /// (own).
     pub fn unhome(&mut self, context: ObjId) -> Result<(), Refusal>
         ensures answer { result ≡ unhomed self.old context }
@@ -357,9 +356,9 @@ impl Contexts {
         }
     }
 
-    /// Moves the context of one thread to another. False where the first holds none, and where the
-    /// second holds one or is no thread of a serial from 1 to 256: then nothing changes (manual:
-    /// Threads and Execution).
+    /// Moves the context of one thread to another. Returns false, and changes nothing, if the first
+    /// holds none, or the second holds one or has a serial beyond 256 (manual: Threads and
+    /// Execution).
     pub fn lend(&mut self, from: ObjId, to: ObjId) -> bool
         ensures answer { result ≡ may_lend self.old from to }
         ensures refused { OnFalse result (self.new ≡ self.old) }

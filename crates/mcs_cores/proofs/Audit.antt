@@ -1,4 +1,4 @@
--- What the seats were told in all.
+-- What is reported to all seats together.
 use Rattle.std.specs.Prelude.{ℕ, Bool, true, false, ◌≡◌, ◌≤◌, ◌+◌, if◌then◌else◌, List, length}
 use Rattle.std.specs.Prelude.{Result, Ok, Err, IfOk, IfErr}
 use Rattle.std.proofs.Common.{◌∙◌, sym, subst, arith}
@@ -10,8 +10,8 @@ use Rattle.mcs_seats.specs.Settling.{HasSeats, AreCounted, Because, HasReason}
 use Rattle.mcs_seats.specs.declared.settle.FinishFault.{FinishFault}
 use Rattle.mcs_seats.proofs.Counting.{enough-seats}
 
--- where no core lacks a seat, no part of the ledger is missing, so the seats were told what it
--- counts
+-- where no core lacks a seat, no part of the ledger is missing, so what it counts was reported to
+-- the seats
 pub all-told : (b : Book) (seats : List Seat) (given : Bool) (kept parts total : ℕ)
     → kept + (if given then b.boot.cores else 0) ≡ core_limit → parts ≡ core_limit → total ≡ length b.lines
     → kept + length seats ≤ parts → (kept + length seats ≡ parts → told_by seats ≡ total) → AreCounted b seats
@@ -30,7 +30,7 @@ pub reason : {X : Type 0} (b : Book) (boot : Boot) (seats : List Seat) → IsLeg
 reason b boot seats legal counted (Ok x) h = tt
 reason b boot seats legal counted (Err f) h = record { book = b; legal = legal; counted = counted; because = h }
 
--- the seats were told the lines of the book that was settled
+-- the lines of the settled book were reported to the seats
 pub settled-counted : (b : Book) (seats : List Seat) → AreCounted b seats → (r : Result Book FinishFault)
     → IfOk r (λ s. s ≡ b) → IfOk r (λ s. HasSeats s seats) → IfOk r (λ s. told_by seats ≡ length s.lines)
 settled-counted b seats counted (Ok s) same has = subst (λ (x : Book). AreCounted x seats) (sym same) counted has

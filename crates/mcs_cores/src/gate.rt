@@ -1,17 +1,16 @@
-//! What a test sees of a run (own).
+//! Hooks by which a test observes a run (own).
 use mcs_types::{CoreId, ObjId};
 
-/// What is reported of a run as it goes, so that a test may hold a core. Both calls come without
-/// any lock.
+/// Observes a run, so that a test can hold a core at a point. No lock is held during either call.
 pub trait Gate: Sync {
-    /// Tells that a core picked a thread, whose entry it has not entered yet.
+    /// Observes that a core picked a thread whose entry it has not entered yet.
     fn between(&self, core: CoreId, thread: ObjId);
 
-    /// Tells that an entry of a core was let in as the line of this number.
+    /// Observes that an entry of a core was accepted as line `line`.
     fn answered(&self, core: CoreId, line: u64);
 }
 
-/// A gate that lets all pass.
+/// A gate that does nothing.
 #[derive(Clone, Copy)]
 pub struct Open;
 

@@ -16,9 +16,9 @@ use std::marker::Model;
 use std::sync::ledger::{Blank, Book, Ledger, Share};
 use std::sync::{Mutex, MutexGuard, Wait};
 
-/// What lies under the lock: the kernel, and the ledger of the lines that were reported to seats.
-/// Clauses see the kernel's book. The ledger's total is the number of lines after the boot, and a
-/// part of it is each core's.
+/// What the lock guards: the kernel, and a ledger of the lines reported to seats. Clauses see the
+/// kernel's book. The ledger's total is the number of lines after the boot; each core has a share
+/// of it.
 #[derive(Drop)]
 pub struct LockedKernel<G: Ledger, L: Lines> {
     kernel: Kernel<L>,
@@ -42,7 +42,7 @@ impl<G: Ledger, L: Lines> Model for LockedKernel<G, L> {
 }
 
 impl<G: Ledger, L: Lines> LockedKernel<G, L> {
-    /// The kernel, to look at.
+    /// Returns the kernel for reading.
     pub(crate) fn kernel(&self) -> &Kernel<L>
         ensures { result.now ≡ self.now }
     {
@@ -50,8 +50,8 @@ impl<G: Ledger, L: Lines> LockedKernel<G, L> {
     }
 
     /// Makes a prepared entry of a thread on the seat's core, and notes it in the seat.
-    /// `Turned::Away` where the thread may not enter or the book is full; OutOfMemory where the
-    /// kernel gets no room.
+    /// `Turned::Away` if the thread may not enter or the book is full; `OutOfMemory` if an
+    /// allocation of the kernel fails.
     pub(crate) fn enter(
         &mut self,
         alloc: Global,
@@ -64,9 +64,9 @@ impl<G: Ledger, L: Lines> LockedKernel<G, L> {
         seat.enter(alloc, &mut self.kernel, &mut self.book, thread, prepared)
     }
 
-    /// Gives out a seat for each of `cores` cores. OutOfMemory where memory is refused, and where
-    /// seats were given before or the boot has another number of cores: no invariant says outside
-    /// of the lock what is true under it, so these are tested again.
+    /// Creates a seat for each of `cores` cores. `OutOfMemory` if an allocation fails, if seats
+    /// were created before, or if the boot has another number of cores. No invariant says outside
+    /// of the lock what is true under it, so the last two are tested again.
     fn seats(&mut self, alloc: Global, cores: u8) -> Result<Vec<CoreSeat<G>>, OutOfMemory>
         ensures unchanged { self.new ≡ self.old }
         ensures seats { IfOk result (λ v. AreNew v.items) }
@@ -81,7 +81,7 @@ impl<G: Ledger, L: Lines> LockedKernel<G, L> {
         Ok(seats)
     }
 
-    /// Compares the calls of the seats with the book, and audits the ledger with the shares of all.
+    /// Compares the calls of the seats with the book, and audits the ledger with all shares.
     fn settle(
         self,
         alloc: Global,
@@ -127,7 +127,7 @@ fn compare<G: Ledger, L: Lines>(
     settle_seats(alloc, kernel, boot, seats)
 }
 
-/// Makes so many seats, each with a part of the ledger.
+/// Creates `cores` seats, each with a share of the ledger.
 fn new_seats<G: Ledger>(
     alloc: Global,
     rest: &mut Share<G>,
@@ -152,7 +152,7 @@ fn new_seats<G: Ledger>(
     Ok(seats)
 }
 
-/// A kernel that cores share: each entry has the lock for itself, from its first test to its last
+/// A kernel that several cores share: each entry holds the lock from its first test to its last
 /// record.
 #[derive(Drop)]
 pub struct Machine<G: Ledger, L: Lines> {
@@ -161,18 +161,18 @@ pub struct Machine<G: Ledger, L: Lines> {
     given: bool,
 }
 
-/// Why seats were not given.
+/// Why seats were not created.
 #[derive(Clone, Copy, PartialEq, Eq, Debug)]
 pub enum SeatsFault {
-    /// They were given before.
+    /// They were created before.
     AlreadyGiven = 1,
-    /// A growth was refused; nothing was given, and seats may be asked for again.
+    /// An allocation failed; nothing was created, and the call can be retried.
     OutOfMemory = 2,
 }
 
 impl<G: Ledger, L: Lines> Machine<G, L> {
-    /// A machine of a kernel whose book has line 0 alone, over a new ledger with a part for each of
-    /// 16 cores.
+    /// Returns a machine over a kernel whose book has only line 0, with a new ledger that has a
+    /// share for each of 16 cores.
     pub fn new(kernel: Kernel<L>, blank: Blank) -> Machine<G, L>
         requires name { blank.name ≡ G.name }
         requires parts { blank.parts ≡ G.parts }
@@ -195,7 +195,7 @@ impl<G: Ledger, L: Lines> Machine<G, L> {
         }
     }
 
-    /// Gives out a seat for each core of the boot in order, once.
+    /// Creates a seat for each core of the boot, in order; only the first call succeeds.
     pub fn seats<R: Wait>(&mut self, rt: &R, alloc: Global) -> Result<Vec<CoreSeat<G>>, SeatsFault>
         ensures seats { IfOk result (λ v. AreNew v.items) }
         ensures count { IfOk result (λ v. length v.items ≡ self.old.cores) }
@@ -216,12 +216,12 @@ impl<G: Ledger, L: Lines> Machine<G, L> {
         }
     }
 
-    /// The lock.
+    /// Takes the lock.
     pub(crate) fn lock<R: Wait>(&self, rt: &R) -> MutexGuard<'_, LockedKernel<G, L>> {
         self.kernel.lock(rt)
     }
 
-    /// What lay under the lock.
+    /// Returns what the lock guarded.
     fn into_locked(self) -> LockedKernel<G, L> {
         let Machine {
             kernel,
@@ -231,10 +231,10 @@ impl<G: Ledger, L: Lines> Machine<G, L> {
         kernel.into_inner()
     }
 
-    /// Lets in an entry of a thread on the seat's core, or turns it away; the seat keeps the entry
-    /// and what became of it. It waits for the lock, behind which the seat takes no memory.
-    /// OutOfMemory where the seat or the kernel gets no room: then both are as they were, and the
-    /// entry is dropped.
+    /// Enters an entry of a thread on the seat's core. The seat keeps the entry, and how it was
+    /// accepted or skipped. It waits for the lock, and allocates nothing for the seat while holding
+    /// it. `OutOfMemory` if an allocation fails: then seat and kernel are unchanged, and the entry
+    /// is dropped.
     pub fn enter<R: Wait>(
         &self,
         rt: &R,
@@ -251,10 +251,10 @@ impl<G: Ledger, L: Lines> Machine<G, L> {
         self.kernel.lock(rt).enter(alloc, seat, thread, prepared)
     }
 
-    /// Compares the calls of the seats with the book, as settle_seats does, and hands the kernel
-    /// back where all agree. No clause can name the book that lay under the lock where it is not
-    /// handed back: a fault is right for some legal book. By the ledger either book has as many
-    /// lines after the boot as the seats have, where no core lacks one.
+    /// Compares the calls of the seats with the book, as `settle_seats` does, and returns the
+    /// kernel if all agree. After a fault no clause can name the book that was under the lock: so
+    /// `fault` says only that the fault is right for some legal book. If no core lacks a seat, that
+    /// book has as many lines after the boot as the seats have, since the ledger counts both.
     pub fn finish(
         self,
         alloc: Global,

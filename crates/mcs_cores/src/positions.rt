@@ -1,4 +1,4 @@
-//! How far the users of a run are, what they can give, and which cores wait (own).
+//! The positions of a run's users, what they can enter, and which cores wait (own).
 ghost use Rattle.std.specs.Prelude.{◌+◌, ◌<◌, ◌^◌};
 
 use crate::core_set::CoreSet;
@@ -13,7 +13,7 @@ use mcs_types::{CoreId, ObjId, OutOfMemory, Status};
 use std::alloc::Global;
 use std::sync::ledger::Ledger;
 
-/// How far a user is: its thread, how many entries it has, and how often it moved.
+/// The position of a user: its thread, how many entries it has, and how often the position changed.
 #[derive(Drop)]
 struct UserPosition {
     thread: ObjId,
@@ -22,7 +22,7 @@ struct UserPosition {
     moves: u64,
 }
 
-/// How far all users are, which cores wait, and whether the run is over.
+/// The positions of all users, which cores wait, and whether the run is over.
 #[derive(Drop)]
 pub(crate) struct Positions {
     users: Vec<UserPosition>,
@@ -30,13 +30,13 @@ pub(crate) struct Positions {
     pub(crate) over: bool,
 }
 
-/// Whether a thread of this status can run.
+/// Returns whether a thread of this status can run.
 fn is_ready(status: Status) -> bool {
     matches!(status, Status::Running | Status::Restart)
 }
 
 impl UserPosition {
-    /// Before the first entry.
+    /// Returns the position before the first entry.
     fn start(list: &UserList) -> UserPosition {
         UserPosition {
             thread: list.thread,
@@ -46,8 +46,8 @@ impl UserPosition {
         }
     }
 
-    /// What the user of this number can give now; None where it has no entry left, or its thread
-    /// may enter nowhere.
+    /// Returns what the user of this number can enter now; None if it has no entry left, or its
+    /// thread may enter nowhere.
     fn offer<L: Lines>(&self, kernel: &Kernel<L>, user: usize) -> Option<Offer> {
         let row = kernel.thread(self.thread)?;
         let status = row.status();
@@ -68,7 +68,7 @@ impl UserPosition {
         })
     }
 
-    /// Moves it to another place.
+    /// Moves the user to another position.
     fn move_to(&mut self, place: Position) {
         self.place = place;
         self.moves = self.moves.wrapping_add(1);
@@ -76,7 +76,7 @@ impl UserPosition {
 }
 
 impl Positions {
-    /// The beginning of a run of these users.
+    /// Returns the positions at the beginning of a run of these users.
     pub(crate) fn new(alloc: Global, users: &Users) -> Result<Positions, OutOfMemory> {
         let lists = users.lists();
         let mut positions = Vec::with_capacity(alloc, lists.len())?;
@@ -92,8 +92,8 @@ impl Positions {
         })
     }
 
-    /// What a core sees now. Each user is asked once what it can give, since its thread may enter
-    /// on one core alone.
+    /// Returns what a core can pick now. Each user is asked once, since its thread may enter on one
+    /// core alone.
     pub(crate) fn look<L: Lines>(&self, kernel: &Kernel<L>, core: CoreId) -> Sight {
         let mut sight = Sight::new(core);
         for (user, position) in self.users.iter().enumerate() {
@@ -104,8 +104,8 @@ impl Positions {
         sight
     }
 
-    /// Enters what a core picked, and moves the user's position on where it was let in; None where
-    /// that position was moved since the pick.
+    /// Enters what a core picked, and advances the user's position if it was accepted. Returns None
+    /// if the position changed since the pick.
     pub(crate) fn enter<G: Ledger, L: Lines>(
         &mut self,
         alloc: Global,

@@ -1,4 +1,4 @@
-//! A run: each core works off the lists of users by a host thread of its own (own).
+//! A run: each core enters the users' entries by a host thread of its own (own).
 ghost use Rattle.std.specs.Prelude.{◌≡◌, ◌≤◌, ◌<◌, ◌+◌, ◌^◌, vec_len, vec_capacity};
 
 use crate::core_set::CoreSet;
@@ -18,18 +18,18 @@ use std::sync::ledger::Ledger;
 use std::thread;
 use std::thread::Threads;
 
-/// Why a run ended before its users had nothing left.
+/// Why a run ended while users had entries left.
 #[derive(Clone, Copy, PartialEq, Eq, Debug)]
 pub enum RunFault {
-    /// The book had no room for an entry that would have been let in.
+    /// The book was full for an entry that would have been accepted.
     BookFull = 1,
-    /// A growth was refused, that of the run itself, of a seat or of the kernel.
+    /// An allocation failed: of the run, of a seat or of the kernel.
     OutOfMemory = 2,
-    /// A host thread could not be started, also for want of memory.
+    /// A host thread could not be started, or an allocation for it failed.
     NoThread = 3,
 }
 
-/// All that the threads of a run share.
+/// What the threads of a run share.
 #[derive(Drop)]
 struct RunContext<'a, G: Ledger, L: Lines, T: Gate> {
     alloc: Global,
@@ -39,14 +39,14 @@ struct RunContext<'a, G: Ledger, L: Lines, T: Gate> {
     shared: &'a SharedPositions,
 }
 
-/// A core that is done: its seat, and how it ended.
+/// The result of a core: its seat, and how it ended.
 type Done<G> = (CoreSeat<G>, Result<(), RunFault>);
 
-/// The threads of the cores.
+/// The handles of the cores' host threads.
 type Running<G> = Vec<thread::JoinHandle<Done<G>>>;
 
-/// Decides whether a run ends because an entry was skipped. What the kernel skipped for its
-/// thread's sake is picked anew.
+/// Returns whether a skipped entry ends the run. If the kernel skipped it because its thread may
+/// not enter, the core picks again.
 fn ends_run(turned: Turned) -> Result<(), RunFault> {
     match turned {
         Turned::OutOfMemory => Err(RunFault::OutOfMemory),
@@ -59,8 +59,8 @@ fn ends_run(turned: Turned) -> Result<(), RunFault> {
 }
 
 impl<G: Ledger, L: Lines, T: Gate> RunContext<'_, G, L, T> {
-    /// Tells those of some cores that wait what they pick. They do not wait any more, and have to
-    /// be woken.
+    /// Gives each of the cores in `ready` that waits the turn that it picks now, and marks it as no
+    /// longer waiting. Returns the cores that the caller has to wake.
     fn tell<R: Wait>(
         &self,
         rt: &R,
@@ -86,8 +86,8 @@ impl<G: Ledger, L: Lines, T: Gate> RunContext<'_, G, L, T> {
         told
     }
 
-    /// Decides what the core does next by what it sees now, and which cores have to be woken for
-    /// that. Where no core can pick anything, the run is over.
+    /// Decides what the core does next, and which cores have to be woken. If no core can pick
+    /// anything, the run is over.
     fn look<R: Wait>(
         &self,
         rt: &R,
@@ -112,7 +112,7 @@ impl<G: Ledger, L: Lines, T: Gate> RunContext<'_, G, L, T> {
         }
     }
 
-    /// What the core does next where it enters nothing before.
+    /// Decides what the core does next when it has entered nothing before.
     fn begin<R: Wait>(&self, rt: &R, core: CoreId) -> Next {
         let (next, told) = {
             let mut positions = self.shared.positions.lock(rt);
@@ -123,10 +123,9 @@ impl<G: Ledger, L: Lines, T: Gate> RunContext<'_, G, L, T> {
         next
     }
 
-    /// Enters what the core picked, where its user has not moved since, and looks what the core
-    /// does next. Only what the core looked at may be entered, so the users' positions stay locked
-    /// from the test whether they moved until they are moved on. The locks are taken once for both,
-    /// and others are woken when they are given up.
+    /// Enters what the core picked, if its user has not moved since, and decides what the core does
+    /// next. The positions stay locked from the test whether the user moved until they are
+    /// advanced. The locks are taken once for both; other cores are woken after they are released.
     fn enter<R: Wait>(
         &self,
         rt: &R,
@@ -148,7 +147,7 @@ impl<G: Ledger, L: Lines, T: Gate> RunContext<'_, G, L, T> {
         (entered, next)
     }
 
-    /// Enters what the core picked, and calls the gate where it was let in.
+    /// Enters what the core picked, and calls the gate if it was accepted.
     fn give<R: Wait>(&self, rt: &R, seat: &mut CoreSeat<G>, turn: Turn) -> Result<Next, RunFault> {
         let Some(entry) = self.users.entry(turn.user, turn.number) else {
             return Ok(self.begin(rt, seat.core()));
@@ -168,7 +167,7 @@ impl<G: Ledger, L: Lines, T: Gate> RunContext<'_, G, L, T> {
         Ok(next)
     }
 
-    /// Gives a core its turns until the run is over.
+    /// Runs the turns of a core until the run is over.
     fn work<R: Wait>(&self, rt: &R, seat: &mut CoreSeat<G>) -> Result<(), RunFault> {
         let core = seat.core();
         let mut next = self.begin(rt, core);
@@ -186,7 +185,7 @@ impl<G: Ledger, L: Lines, T: Gate> RunContext<'_, G, L, T> {
     }
 }
 
-/// What the thread of a core does. Its fault ends the run.
+/// Runs the host thread of a core. Its fault ends the run.
 fn serve<G: Ledger, L: Lines, T: Gate, R: Wait>(
     rt: &R,
     context: &RunContext<'_, G, L, T>,
@@ -200,7 +199,7 @@ fn serve<G: Ledger, L: Lines, T: Gate, R: Wait>(
     (seat, result)
 }
 
-/// The fault of the lowest core so far.
+/// Returns the fault of the lowest core so far.
 fn lowest_fault(
     fault: Option<(CoreId, RunFault)>,
     core: CoreId,
@@ -212,8 +211,8 @@ fn lowest_fault(
     }
 }
 
-/// Starts a thread for each seat, for which there is room; where one is refused, the run ends with
-/// the fault of the lowest core.
+/// Starts a host thread for each seat. If one cannot be started, the run ends with the fault of the
+/// lowest core.
 fn start_all<
     's,
     E,
@@ -249,8 +248,7 @@ fn start_all<
     (running, fault)
 }
 
-/// Joins all threads, and gathers their seats, for which there is room; with the fault of the
-/// lowest core.
+/// Joins all host threads, and collects their seats, with the fault of the lowest core.
 fn join_all<G: Ledger, R: Threads>(
     rt: &R,
     running: Running<G>,
@@ -312,12 +310,12 @@ impl<G: Ledger + Send + Sync, L: Lines + Send + Sync> Machine<G, L> {
     /// gives the thread's next entry, or its last one again where that was answered Waits and the
     /// thread was restarted. Where the user gave another entry meanwhile, nothing is entered, and
     /// after that, as after an entry that was skipped, the core picks anew. The gate is called
-    /// between the pick and the entry, and after an entry that was let in. There has to be a seat
+    /// between the pick and the entry, and after an entry that was accepted. There has to be a seat
     /// for each core of the machine: for a core without one, which has entries left, the others
     /// wait.
     ///
     /// All seats come back but those whose thread could not be started. BookFull (1) where the book
-    /// has no room for an entry, OutOfMemory (2) where a growth was refused, NoThread (3) where a
+    /// has no room for an entry, OutOfMemory (2) if an allocation fails, NoThread (3) where a
     /// thread could not be started: of several faults that of the lowest core. The other cores then
     /// stop at their next turn.
     pub fn run<R: Threads + Wait + Sync, T: Gate>(

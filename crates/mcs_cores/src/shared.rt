@@ -1,4 +1,4 @@
-//! What the threads of a run share: how far the users are, and the messages to cores that wait
+//! What the threads of a run share: the positions of users, and the messages to waiting cores
 //! (own).
 use crate::core_set::CoreSet;
 use crate::positions::Positions;
@@ -13,21 +13,21 @@ use std::sync::{Condvar, Mutex, Wait};
 pub(crate) enum Next {
     /// It enters what it picked.
     Enters(Turn),
-    /// It waits for a message.
+    /// It waits for a message from another core.
     Waits,
-    /// It stops, for the run is over.
+    /// It stops: the run is over.
     Stops,
 }
 
-/// The message to a core, and where it waits for that.
+/// The message to a core, and the condition on which it waits for one.
 #[derive(Drop)]
 struct News {
     told: Mutex<Next>,
     changed: Condvar,
 }
 
-/// How far the users are, and the news of each core. The lock of the positions is taken before the
-/// kernel's, and either before that of news.
+/// The positions of the users, and the messages to each core. Lock order: positions, then kernel,
+/// then messages.
 #[derive(Drop)]
 pub(crate) struct SharedPositions {
     pub(crate) positions: Mutex<Positions>,
@@ -35,7 +35,7 @@ pub(crate) struct SharedPositions {
 }
 
 impl News {
-    /// Nothing yet.
+    /// Returns a `News` without a message.
     fn new() -> News {
         News {
             told: Mutex::new(Next::Waits),
@@ -67,15 +67,15 @@ impl SharedPositions {
         })
     }
 
-    /// Sends a message to a core. The sender wakes it when the locks are given up, for which it
-    /// would have to wait.
+    /// Sends a message to a core. The sender wakes it after releasing the locks, which the core
+    /// would have to wait for.
     pub(crate) fn tell<R: Wait>(&self, rt: &R, core: CoreId, next: Next) {
         if let Some(news) = self.news.get(core.0 as usize) {
             *news.told.lock(rt) = next;
         }
     }
 
-    /// Waits for a message to a core. A core without news of its own stops.
+    /// Waits for a message to a core. A core without a message box stops.
     pub(crate) fn hear<R: Wait>(&self, rt: &R, core: CoreId) -> Next {
         match self.news.get(core.0 as usize) {
             Some(news) => news.hear(rt),
@@ -97,8 +97,8 @@ impl SharedPositions {
         }
     }
 
-    /// Ends the run for all cores: they stop at their next turn. Those that wait get a message, and
-    /// have to be woken.
+    /// Ends the run for all cores: they stop at their next turn. Sends a message to those that
+    /// wait, and returns them for the caller to wake.
     pub(crate) fn end<R: Wait>(&self, rt: &R, positions: &mut Positions) -> CoreSet {
         positions.over = true;
         for core in 0..CORES {
@@ -109,7 +109,7 @@ impl SharedPositions {
         positions.asleep
     }
 
-    /// Does the same for a caller that does not have the lock.
+    /// Ends the run as `end` does, for a caller without the lock, and wakes the cores.
     pub(crate) fn close<R: Wait>(&self, rt: &R) {
         let told = self.end(rt, &mut self.positions.lock(rt));
         self.wake(told);

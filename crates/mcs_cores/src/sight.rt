@@ -1,9 +1,9 @@
-//! What a core sees of the users of a run (own).
+//! The candidates among which a core picks (own).
 use crate::core_set::CoreSet;
 use mcs_types::{CoreId, ObjId, Prio};
 
 /// An entry that a core picked: the user and its thread, the number of the entry in the user's
-/// list, and how often the user's position had been moved by then.
+/// list, and how often the user's position had changed by then.
 #[derive(Clone, Copy, Drop)]
 pub(crate) struct Turn {
     pub(crate) thread: ObjId,
@@ -12,7 +12,7 @@ pub(crate) struct Turn {
     pub(crate) moves: u64,
 }
 
-/// What a user can give, on which core, and the priority of its thread.
+/// A candidate: what a user can enter, on which core, and its thread's priority.
 #[derive(Clone, Copy, Drop)]
 pub(crate) struct Offer {
     pub(crate) core: CoreId,
@@ -20,7 +20,7 @@ pub(crate) struct Offer {
     pub(crate) turn: Turn,
 }
 
-/// The best of what users can give on one core, and the cores on which they can give something.
+/// The best candidate of one core, and the cores that have candidates.
 #[derive(Drop)]
 pub(crate) struct Sight {
     core: CoreId,
@@ -29,7 +29,8 @@ pub(crate) struct Sight {
 }
 
 impl Offer {
-    /// Whether its thread has the greater priority, or the lower serial and the same priority.
+    /// Returns whether this candidate has the greater priority, or the same priority and the lower
+    /// serial.
     fn goes_before(&self, other: &Offer) -> bool {
         other.priority.0 < self.priority.0
             || (other.priority.0 == self.priority.0
@@ -38,7 +39,7 @@ impl Offer {
 }
 
 impl Sight {
-    /// What a core sees where no user can give anything.
+    /// Returns what a core sees if no user can enter anything.
     pub(crate) fn new(core: CoreId) -> Sight {
         Sight {
             core,
@@ -47,7 +48,7 @@ impl Sight {
         }
     }
 
-    /// Adds what a user can give.
+    /// Adds a candidate.
     pub(crate) fn add(&mut self, offer: Offer) {
         self.ready.insert(offer.core);
         if offer.core != self.core {
@@ -59,7 +60,7 @@ impl Sight {
         }
     }
 
-    /// What the core picks.
+    /// Returns what the core picks.
     pub(crate) fn pick(&self) -> Option<Turn> {
         match &self.best {
             Some(offer) => Some(offer.turn),
@@ -67,7 +68,7 @@ impl Sight {
         }
     }
 
-    /// The cores that can pick something.
+    /// Returns the cores that can pick something.
     pub(crate) fn ready(&self) -> CoreSet {
         self.ready
     }

@@ -23,8 +23,7 @@ impl Model for UserList {
 }
 
 impl UserList {
-    /// Adds an entry to the end. OutOfMemory where a growth was refused: then the list is as it
-    /// was.
+    /// Adds an entry to the end. `OutOfMemory` if an allocation fails: then the list is as it was.
     fn push(&mut self, entry: Entry) -> Result<(), OutOfMemory>
         ensures added { OnOk result
             (self.new ≡ record self.old { entries = self.old.entries ++ entry ∷ [] }) }
@@ -51,7 +50,7 @@ impl Model for Users {
 }
 
 impl Users {
-    /// No user.
+    /// Returns a list of no users.
     pub fn new(alloc: Global) -> Users
         ensures { result ≡ [] }
     {
@@ -61,8 +60,8 @@ impl Users {
         }
     }
 
-    /// Adds an entry to the end of a thread's list. OutOfMemory where a growth was refused: then
-    /// the lists are as they were.
+    /// Adds an entry to the end of a thread's list. `OutOfMemory` if an allocation fails: then the
+    /// lists are as they were.
     pub fn add(&mut self, thread: ObjId, entry: Entry) -> Result<(), OutOfMemory>
         ensures added { OnOk result (self.new ≡ with_entry self.old thread entry) }
         ensures unchanged { OnErr result (self.new ≡ self.old) }
@@ -97,7 +96,7 @@ impl Users {
         self.lists.get(user)?.entries.get(number)
     }
 
-    /// The place of a thread's list.
+    /// Returns the index of a thread's list.
     fn find(&self, thread: ObjId) -> Option<usize>
         ensures { result ≡ position (λ u. same u.thread thread) self.now }
     {

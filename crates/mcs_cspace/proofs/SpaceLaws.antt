@@ -28,6 +28,6 @@ radix-some P c i next h = go (page_at P c) refl
     go None is e = absurd cc
     go (Some p) is e = (cnode-good P (number_of c) p h is).0
 
--- so each level after which lookup goes on takes a bit at least
+-- so each level after which lookup continues takes a bit at least
 pub slots-narrow : (P : List Page) (root : Cap) → ArePages P → Narrows (slots_space P) root
 slots-narrow P root h = record { here = λ i next e. radix-some P root.obj i next h e; within = λ c i next e j more f. radix-some P next.obj j more h f }

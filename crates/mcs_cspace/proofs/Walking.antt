@@ -15,7 +15,7 @@ pub none-left : (n a : ℕ) → is_none_left (bits_of n a) ≡ (n == 0)
 none-left zero a = refl
 none-left (suc n) a = sym (different (suc n) 0 (λ e. omega (arith, e)))
 
--- the CNode at which lookup goes on, by numbers
+-- the CNode at which lookup continues, by numbers
 abbrev pub next_of : Space → Cap → Step → Option Cap
 next_of S cap s = cond (s.left == 0) None (cnode_cap (S.slot cap.obj s.index))
 

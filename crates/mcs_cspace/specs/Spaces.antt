@@ -28,7 +28,7 @@ IsThereWithCNode P at = HasSlot P at ↔ IsSome (radix_of P at.cnode)
 abbrev pub radix_on : Option Page → ℕ
 radix_on p = unwrap_or (page_radix p) 0
 
--- the CNode at which lookup goes on after a level: bits are left, and the slot holds a capability
+-- the CNode at which lookup continues after a level: bits are left, and the slot holds a capability
 -- to it
 abbrev pub next_on : Option Page → Step → Option Cap
 next_on p s = cond (s.left == 0) None (cnode_cap (page_slot p s.index))
@@ -37,7 +37,7 @@ next_on p s = cond (s.left == 0) None (cnode_cap (page_slot p s.index))
 abbrev pub reached_by : ℕ → End → Reached
 reached_by a end = record { cnode = end.slot.cnode; index = end.slot.index; left = bits_of end.left a }
 
--- so with its refusals
+-- the result of a walk as a lookup of the specification, refusals included
 abbrev pub walked_by : ℕ → Result End Refusal → Checked Reached
 walked_by a (Ok end) = Ok (reached_by a end)
 walked_by a (Err why) = Err why
@@ -58,7 +58,7 @@ EndsAt P root place at = IsSlotNamedFrom (slots_space P) root place (name_of at)
 abbrev pub EndsNowhere : List Page → Cap → Place → Refusal → Type 0
 EndsNowhere P root place why = IsSlotUnnamedFrom (slots_space P) root place why
 
--- so with its refusals
+-- the slot of a result as its name, refusals included
 abbrev pub named_by : Result SlotId Refusal → Checked SlotName
 named_by (Ok at) = Ok (name_of at)
 named_by (Err why) = Err why

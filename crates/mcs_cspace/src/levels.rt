@@ -5,14 +5,15 @@ ghost use Rattle.mcs_cspace.specs.Levels.{past_guard, level_at};
 
 use mcs_types::{Guard, Refusal};
 
-/// A slot of the CNode at which a level began, and how many bits of the address are left.
+/// One level of a lookup: a slot of the CNode where the level began, and how many bits of the
+/// address are left.
 #[derive(Clone, Copy, PartialEq, Eq, Debug)]
 pub(crate) struct Step {
     pub(crate) index: u8,
     pub(crate) left: u32,
 }
 
-/// The low `count` bits of a word.
+/// Returns the low `count` bits of a word.
 fn low_bits(word: u64, count: u32) -> u64
     requires { count ≤ 64 }
     ensures value { result ≡ word % 2 ^ count }
@@ -25,7 +26,7 @@ fn low_bits(word: u64, count: u32) -> u64
     word & mask
 }
 
-/// The next `count` bits of a word, of which the low `below` come later.
+/// Returns `count` bits of a word, above its low `below` bits.
 fn bits_at(word: u64, below: u32, count: u32) -> u64
     requires within { below ≤ 64 }
     requires few { count ≤ 64 }
@@ -36,7 +37,7 @@ fn bits_at(word: u64, below: u32, count: u32) -> u64
     low_bits(front, count)
 }
 
-/// The next `width` bits of a word, of which the low `below` come later.
+/// Returns `width` bits of a word, above its low `below` bits, as an index.
 fn index_at(word: u64, below: u32, width: u32) -> u8
     requires within { below < 64 }
     requires few { width ≤ 8 }
@@ -47,8 +48,8 @@ fn index_at(word: u64, below: u32, width: u32) -> u8
     (word >> below & mask) as u8
 }
 
-/// How many bits are left after a guard, where the next of `left` bits of the address are the
-/// guard's. Most guards have none.
+/// Returns how many bits are left after a guard, if the next of the `left` bits of the address are
+/// the guard's. Most guards are empty.
 #[tactic(auto, unfolding(crate::specs::Levels::past_guard))]
 fn past_guard(guard: Guard, left: u32, address: u64) -> Result<u32, Refusal>
     requires { left ≤ 64 }
@@ -65,8 +66,8 @@ fn past_guard(guard: Guard, left: u32, address: u64) -> Result<u32, Refusal>
     Ok(left - size)
 }
 
-/// One level by numbers: where `left` bits of the address are left, the first of these are the
-/// guard, and the next the index. Of a guard's value its low bits count, as many as the guard has.
+/// Resolves one level: of the `left` bits of the address, the first have to be the guard, and the
+/// next are the index. Of a guard's value its low bits count, as many as its size says.
 #[tactic(auto, unfolding(crate::specs::Levels::level_at))]
 pub(crate) fn level(guard: Guard, radix: u8, left: u32, address: u64) -> Result<Step, Refusal>
     requires within { left ≤ 64 }

@@ -12,7 +12,7 @@ use crate::paths::{End, find, slot_in};
 use mcs_slots::{SlotId, Slots, by_fields};
 use mcs_types::{Cap, Place, Refusal};
 
-/// The capability in the slot at the end of a path, which is Missing where the slot is empty.
+/// Returns the capability in the slot at the end of a path; Missing if the slot is empty.
 #[inline(always)]
 fn held(end: End<'_>) -> Result<Cap, Refusal>
     ensures { result
@@ -24,7 +24,7 @@ fn held(end: End<'_>) -> Result<Cap, Refusal>
     }
 }
 
-/// The slot at the end of a path, where no bits are left.
+/// Returns the slot at the end of a path, if no bits are left.
 fn whole(end: End<'_>) -> Result<SlotId, Refusal>
     ensures { result ≡ (if end.entry.left == 0 then Ok end.entry.slot else Err DepthMismatch) }
 {
@@ -35,7 +35,7 @@ fn whole(end: End<'_>) -> Result<SlotId, Refusal>
     }
 }
 
-/// Whether a depth is of 1 to 64 bits, as slot operations need.
+/// Returns whether a depth is of 1 to 64 bits, as slot operations need.
 pub fn in_range(depth: u8) -> bool
     ensures { result ≡ is_depth depth }
 {
@@ -65,12 +65,12 @@ fn place_from(slots: &Slots, root: &Cap, place: Place) -> Result<SlotId, Refusal
     }
 }
 
-/// The capability that an address of 64 bits names from a root (manual: Capability Spaces). It is
-/// in the slot at the end of the complete path; refused with Missing where that slot is empty, and
-/// else as the longest path says: GuardMismatch, or DepthMismatch. Any root may be given: of a
-/// guard's value the low bits count, as many as the guard has, and a CNode that is not there has a
-/// radix of 0 and empty slots (own).
-// a part of its caller, so that the answer of 48 bytes is not put together and read again
+/// Returns the capability that a 64-bit address names from a root (manual: Capability Spaces). It
+/// is in the slot at the end of the complete path; Missing if that slot is empty. If no path is
+/// complete, the longest decides between GuardMismatch and DepthMismatch. Any root may be given: of
+/// a guard's value the low bits count, as many as its size says, and a CNode that does not exist
+/// has radix 0 and empty slots (own).
+// inlined, so that the answer of 48 bytes is not stored and read again
 #[inline(always)]
 pub fn lookup(slots: &Slots, root: &Cap, address: u64) -> Result<Cap, Refusal>
     ensures value { result ≡ capability_from (slots_space slots.now) root.now address }
@@ -84,8 +84,8 @@ pub fn lookup(slots: &Slots, root: &Cap, address: u64) -> Result<Cap, Refusal>
 /// The slot that an index and a depth name from a root (manual: Capability Spaces). Refused with
 /// Range for a depth of 0 or above 64, which comes first, with DepthMismatch where bits are left at
 /// the path's end, and else as the longest path says. Any root may be given, as for `lookup`. So
-/// the slot is there exactly where its CNode is: each slot on the way is below 2 to the radix of
-/// its CNode, and a path may end at index 0 of a CNode that is not there (own).
+/// the slot exists exactly if its CNode does: each slot on the way is below 2 to the radix of its
+/// CNode, and a path may end at index 0 of a CNode that does not exist (own).
 pub fn lookup_slot(slots: &Slots, root: &Cap, place: Place) -> Result<SlotId, Refusal>
     ensures value { named_by result ≡ slot_from (slots_space slots.now) root.now place }
     ensures named { IfOk result (EndsAt slots.now root.now place) }

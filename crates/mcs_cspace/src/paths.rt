@@ -1,4 +1,4 @@
-//! The way from a root to the slot at the end of the path that an address spells.
+//! Follows the path that an address spells from a root to its last slot.
 ghost use Rattle.std.specs.Prelude.{◌≡◌, ◌≤◌, IfOk, option_copied};
 ghost use Rattle.mcs_book.specs.Lookup.{cnode_cap};
 ghost use Rattle.mcs_slots.specs.Pages.{page_at, page_slot};
@@ -8,8 +8,8 @@ use crate::levels::{Step, level};
 use mcs_slots::{Page, SlotId, Slots};
 use mcs_types::{Cap, Kind, ObjId, Refusal};
 
-/// The slot at which lookup ends, with the slots of its CNode, and how many bits of the address are
-/// left there.
+/// The slot at which lookup ends, the slots of its CNode, and how many bits of the address are left
+/// there.
 #[derive(Clone, Copy)]
 pub(crate) struct End<'a> {
     pub(crate) page: Option<&'a Page>,
@@ -17,7 +17,7 @@ pub(crate) struct End<'a> {
     pub(crate) left: u32,
 }
 
-/// The capability, where it is to a CNode.
+/// Returns the capability if it is to a CNode.
 fn to_cnode(cap: Option<Cap>) -> Option<Cap>
     ensures { result ≡ cnode_cap cap }
 {
@@ -27,7 +27,7 @@ fn to_cnode(cap: Option<Cap>) -> Option<Cap>
     }
 }
 
-/// The radix of a CNode with these slots, or 0 where it is not there.
+/// The radix of a CNode with these slots, or 0 if it does not exist.
 fn radix_of(page: Option<&Page>) -> u8
     ensures value { result ≡ radix_on (option_copied page.entry) }
     ensures few { result ≤ 8 }
@@ -38,7 +38,7 @@ fn radix_of(page: Option<&Page>) -> u8
     }
 }
 
-/// The radix of a CNode, or 0 where it is not there.
+/// The radix of a CNode, or 0 if it does not exist.
 pub fn radix_in(slots: &Slots, cnode: ObjId) -> u8
     ensures value { result ≡ (slots_space slots.now).radix cnode }
     ensures few { result ≤ 8 }
@@ -46,15 +46,15 @@ pub fn radix_in(slots: &Slots, cnode: ObjId) -> u8
     radix_of(slots.page(cnode))
 }
 
-/// What a slot of a CNode holds; None where the CNode is not there.
+/// Returns what a slot of a CNode holds; None if the CNode does not exist.
 pub(crate) fn slot_in(page: Option<&Page>, index: u8) -> Option<Cap>
     ensures { result ≡ page_slot (option_copied page.entry) index }
 {
     page?.get(index)
 }
 
-/// The capability to the CNode at which lookup goes on: bits are left, and the slot of this CNode
-/// holds it.
+/// Returns the capability to the CNode at which lookup continues: bits are left, and the slot of
+/// this CNode holds it.
 fn next_in(page: Option<&Page>, step: Step) -> Option<Cap>
     ensures { result ≡ next_on (option_copied page.entry) step }
 {
@@ -64,7 +64,7 @@ fn next_in(page: Option<&Page>, step: Step) -> Option<Cap>
     to_cnode(slot_in(page, step.index))
 }
 
-/// The slot of a CNode with these slots at which lookup ends.
+/// Returns the end of lookup at a slot of a CNode that has these slots.
 fn end_at<'a>(page: Option<&'a Page>, cnode: ObjId, step: Step) -> End<'a>
     ensures { result ≡ record {
       page = page.entry;
@@ -83,9 +83,9 @@ fn end_at<'a>(page: Option<&'a Page>, cnode: ObjId, step: Step) -> End<'a>
     }
 }
 
-/// The slot at the end of the path from a root that spells the low `depth` bits of an address, and
-/// how many of them are left.
-// a part of its callers, so that the end of a path is not moved
+/// Returns the slot at the end of the path from a root that spells the low `depth` bits of an
+/// address, and how many of them are left.
+// inlined, so that the end of a path is not moved
 #[inline(always)]
 pub(crate) fn find<'a>(
     slots: &'a Slots,

@@ -17,18 +17,18 @@ pub record Lines : Type 0 where
 abbrev pub lines : List Op → List ProgramEntry → List Fill → Lines
 lines ops entries fills = record { ops = ops; entries = entries; fills = fills }
 
--- a line that gives an entry gives one of so many
+-- a line that gives an entry gives one of this many entries
 abbrev pub GivesOneOf : ℕ → Op → Type 0
 GivesOneOf n (op.Give number) = number < n
 GivesOneOf n o = Unit {0}
 
--- a line that goes on elsewhere goes on at one of so many lines, or behind them
+-- a line that continues elsewhere continues at one of this many lines, or after them
 abbrev pub GoesWithin : ℕ → Op → Type 0
 GoesWithin n (op.Unless test to) = to ≤ n
 GoesWithin n (op.Jump to) = to ≤ n
 GoesWithin n o = Unit {0}
 
--- what is filled in is of one of so many entries
+-- what is filled in is of one of this many entries
 abbrev pub IsOfOneOf : ℕ → Fill → Type 0
 IsOfOneOf n f = f.number < n
 
@@ -38,13 +38,13 @@ pub record NameEntries (l : Lines) : Type 0 where
   pub fills : All (IsOfOneOf (length l.entries)) l.fills
 
 -- the lines of a program: there is an entry, each line that gives one gives one that is there, and
--- goes on within the lines or behind them
+-- continues within the lines or after them
 pub record AreLines (l : Lines) : Type 0 where
   pub some : 0 < length l.entries
   pub names : NameEntries l
   pub goes : All (GoesWithin (length l.ops)) l.ops
 
--- a line that goes on behind so many lines at the furthest
+-- a line that continues after this many lines at the furthest
 abbrev pub within : ℕ → Op → Op
 within n (op.Unless test to) = op.Unless test (min to n)
 within n (op.Jump to) = op.Jump (min to n)

@@ -1,15 +1,15 @@
-//! Blocks of a program that are open.
+//! The open blocks of a program.
 use mcs_turns::Slot;
 use std::alloc::{AllocError, Global};
 
-/// A slot that counts the rounds of a loop, and how many there are.
+/// A slot that counts the rounds of a loop, and how many rounds there are.
 #[derive(Clone, Copy, Drop)]
 pub struct Counter {
     pub slot: Slot,
     pub rounds: u64,
 }
 
-/// A loop: where a round begins, the lines that leave it, and what counts its rounds.
+/// A loop: where a round begins, the lines that leave the loop, and what counts its rounds.
 #[derive(Drop)]
 pub struct Round {
     pub start: usize,
@@ -17,8 +17,8 @@ pub struct Round {
     pub counter: Option<Counter>,
 }
 
-/// The arms of an `if`: the lines that pass by the arm that is open, and those that end the arms
-/// before it. A plain block is one arm, which nothing passes by.
+/// The arms of an `if`: the lines that skip the open arm, and those that end the arms before it. A
+/// plain block is one arm that nothing skips.
 #[derive(Drop)]
 pub struct Arms {
     pub skips: Vec<usize>,
@@ -33,8 +33,8 @@ pub enum Shape {
     Arms(Arms),
 }
 
-/// A block, the line of the script that opened it, how many words were kept before it, and the
-/// place of its name, if it has one.
+/// A block: its kind, the script's line that opened it, how many words were kept before it, and the
+/// index of its name, if it has one.
 #[derive(Drop)]
 pub struct Block {
     pub line: u64,
@@ -43,7 +43,8 @@ pub struct Block {
     pub shape: Shape,
 }
 
-/// Where a round of a loop begins, what counts the rounds, and how many words are kept then.
+/// Where a round of a loop begins, what counts the rounds, and how many words are kept at that
+/// point.
 #[derive(Clone, Copy, Drop)]
 pub struct RoundHead {
     pub start: usize,
@@ -52,7 +53,7 @@ pub struct RoundHead {
 }
 
 impl Round {
-    /// How a round begins, where so many words were kept before the loop.
+    /// Returns how a round begins, if this many words were kept before the loop.
     pub fn head(&self, before: usize) -> RoundHead {
         let own = usize::from(self.counter.is_some());
         RoundHead {
@@ -64,7 +65,7 @@ impl Round {
 }
 
 impl Arms {
-    /// The arm that a plain block is.
+    /// Returns the arm that a plain block is.
     pub fn plain(alloc: Global) -> Arms {
         Arms {
             skips: Vec::new(alloc),
@@ -75,7 +76,7 @@ impl Arms {
 }
 
 impl Block {
-    /// How a round begins, where it is a loop.
+    /// Returns how a round begins, if the block is a loop.
     pub fn head(&self) -> Option<RoundHead> {
         match &self.shape {
             Shape::Loop(round) => Some(round.head(self.kept)),
@@ -83,7 +84,7 @@ impl Block {
         }
     }
 
-    /// Adds a line that leaves it, where it is a loop.
+    /// Adds a line that leaves the block, if it is a loop.
     pub fn add_exit(&mut self, at: usize) -> Result<(), AllocError> {
         match &mut self.shape {
             Shape::Loop(round) => round.exits.push(at)?,

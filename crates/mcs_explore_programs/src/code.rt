@@ -16,18 +16,18 @@ pub struct ProgramEntry {
     pub text: Vec<u8>,
 }
 
-/// A part of an entry's message that is a word that is kept: its label, or a word of it.
+/// A part of an entry's message that is filled from a kept word: its label, or one of its words.
 #[derive(Clone, Copy, Drop)]
 pub struct Filled {
     pub word: Option<u8>,
     pub from: Slot,
 }
 
-/// Behind the last line, wherever that will be.
+/// The jump target after the last line, wherever that will be.
 pub const END: usize = usize::MAX;
 
-/// The lines of a program, its entries, and what is filled into their messages. A line that goes
-/// on elsewhere is aimed at the end at first.
+/// The lines of a program, its entries, and what is filled into their messages. A jump targets the
+/// end until it is aimed.
 #[derive(Drop)]
 pub struct Code {
     ops: Vec<Op>,
@@ -45,7 +45,7 @@ impl Model for Code {
     ghost invariant = { λ c. NameEntries (lines c.ops.items c.entries.items c.fills.items) };
 }
 
-/// A line that goes on behind so many lines at the furthest.
+/// Returns the line with its jump target limited to `count`.
 fn within(op: Op, count: usize) -> Op
     ensures { result ≡ within count op }
 {
@@ -57,7 +57,7 @@ fn within(op: Op, count: usize) -> Op
 }
 
 impl Code {
-    /// No line.
+    /// Returns a program without lines.
     pub fn new(alloc: Global) -> Code
         ensures { result ≡ lines [] [] [] }
     {
@@ -75,7 +75,7 @@ impl Code {
         self.ops.as_slice()
     }
 
-    /// How many entries there are.
+    /// Returns how many entries there are.
     pub fn entries(&self) -> usize
         ensures { result ≡ length self.now.entries }
     {
@@ -104,7 +104,7 @@ impl Code {
         Ok(())
     }
 
-    /// Adds what is filled into the message of an entry.
+    /// Adds all that is filled into the message of an entry.
     fn fill_all(&mut self, number: usize, filled: &[Filled]) -> Result<(), AllocError>
         requires { number < length self.old.entries }
     {
@@ -140,15 +140,14 @@ impl Code {
         self.fill_all(number, filled)
     }
 
-    /// Adds a line that goes on at this place, and returns its own.
+    /// Adds a jump to an index, and returns the jump's own index.
     pub fn jump(&mut self, to: usize) -> Result<usize, AllocError> {
         let at = self.ops.len();
         self.push(Op::Jump(to))?;
         Ok(at)
     }
 
-    /// Adds the lines of a check, and returns the place of the one that goes on elsewhere where the
-    /// check fails.
+    /// Adds the lines of a check, and returns the index of the one that jumps if the check fails.
     fn check(&mut self, check: Check) -> Result<usize, AllocError> {
         let at = self.ops.len();
         if check.is_to_hold {
@@ -159,7 +158,7 @@ impl Code {
         self.jump(END)
     }
 
-    /// Adds the lines of a condition, and the places of those that go on elsewhere where it fails.
+    /// Adds the lines of a condition, and to `skips` the indices of those that jump if it fails.
     pub fn checks(&mut self, checks: &[Check], skips: &mut Vec<usize>) -> Result<(), AllocError> {
         for check in checks {
             let at = self.check(*check)?;
@@ -168,7 +167,7 @@ impl Code {
         Ok(())
     }
 
-    /// Lets the line in a place go on at this one, if it goes on elsewhere.
+    /// Aims the jump at an index to another index; does nothing if it is no jump.
     fn aim(&mut self, at: usize, to: usize) {
         let aimed = match self.ops.get(at).copied() {
             Some(Op::Unless(test, _)) => Op::Unless(test, to),
@@ -180,7 +179,7 @@ impl Code {
         }
     }
 
-    /// Lets the lines in these places go on at the next line.
+    /// Aims the jumps at these indices to the next line.
     pub fn aim_here(&mut self, places: &[usize]) {
         let here = self.ops.len();
         for at in places {
@@ -188,7 +187,7 @@ impl Code {
         }
     }
 
-    /// Adds lines that clear the words that are kept, but for the first few.
+    /// Adds lines that clear all kept words but the first few.
     pub fn clear(&mut self, slots: &Slots, from: usize) -> Result<(), AllocError> {
         for number in from..slots.count() {
             if let Some(slot) = slots.at(number) {
@@ -198,7 +197,7 @@ impl Code {
         Ok(())
     }
 
-    /// Adds lines that clear the words that are kept, but for the first few, and lets them go.
+    /// Adds lines that clear all kept words but the first few, and frees their slots.
     pub fn release(&mut self, slots: &mut Slots, to: usize) -> Result<(), AllocError>
         ensures { OnOk result (self.new.entries ≡ self.old.entries) }
     {
@@ -210,7 +209,7 @@ impl Code {
         Ok(())
     }
 
-    /// The lines, each of which goes on within them or behind them.
+    /// Returns the lines, with each jump within them or to their end.
     fn aimed_ops(&self, alloc: Global) -> Result<Vec<Op>, AllocError>
         ensures { IfOk result (λ o. o.items ≡ map (within (length self.now.ops)) self.now.ops) }
     {
@@ -218,8 +217,8 @@ impl Code {
         self.ops.iter().map(|op| within(*op, count)).collect(alloc)
     }
 
-    /// The lines, each of which goes on within them or behind them, the entries, and what is filled
-    /// into their messages.
+    /// Returns the lines, with each jump within them or to their end, the entries, and what is
+    /// filled into their messages.
     #[tactic(auto, using(crate::proofs::Lines::lines_within))]
     pub fn into_parts(
         self,

@@ -7,11 +7,11 @@ use crate::values::{read_value, source_of};
 use mcs_turns::{Source, Test};
 use std::alloc::Global;
 
-/// What a test is.
+/// What faults say about a test.
 const TESTS: &str =
     "got, heard, empty, done, refused, and two values with ==, !=, <, >= or has between them";
 
-/// What stands between two values.
+/// What may be between two values.
 const SIGNS: &str = "==, !=, <, >= or has";
 
 /// The greatest number of a refusal.
@@ -20,14 +20,14 @@ const REFUSALS: u64 = 13;
 /// The greatest number of a bit.
 const LAST_BIT: u64 = 63;
 
-/// A test, and whether it has to hold.
+/// A test, and whether it has to hold or to fail.
 #[derive(Clone, Copy, Drop)]
 pub struct Check {
     pub test: Test,
     pub is_to_hold: bool,
 }
 
-/// The test that one word names.
+/// Returns the test that a single word names.
 fn named_test(word: &[u8]) -> Option<Test> {
     match word {
         b"got" => Some(Test::Got),
@@ -39,7 +39,7 @@ fn named_test(word: &[u8]) -> Option<Test> {
     }
 }
 
-/// Whether a word may begin a value.
+/// Returns whether a word may begin a value.
 fn is_value(word: &[u8]) -> bool {
     match word {
         [b'$', ..] => true,
@@ -48,7 +48,8 @@ fn is_value(word: &[u8]) -> bool {
     }
 }
 
-/// Takes the number of a refusal, if there is one: then the test is of that one.
+/// Takes the number of a refusal, if there is one, and returns the test for that refusal or for
+/// any.
 fn refused(statement: &mut Statement<'_>) -> Result<Test, ProgramFault> {
     match statement.peek() {
         None | Some(b"{") | Some(b"and") => Ok(Test::Refused),
@@ -59,7 +60,7 @@ fn refused(statement: &mut Statement<'_>) -> Result<Test, ProgramFault> {
     }
 }
 
-/// Takes the bits that a value is to have: those of another value, or the one of a number.
+/// Takes the bits that a value is tested for: another value, or the single bit of a number.
 fn bits(statement: &mut Statement<'_>, slots: &Slots) -> Result<Source, ProgramFault> {
     if !statement.take(b"bit") {
         return read_value(statement, slots);
@@ -68,7 +69,7 @@ fn bits(statement: &mut Statement<'_>, slots: &Slots) -> Result<Source, ProgramF
     Ok(Source::Number(1 << number.min(LAST_BIT)))
 }
 
-/// Takes a sign and a second value: a test of two values.
+/// Takes a sign and a second value, and returns the test that compares both.
 fn compared(
     statement: &mut Statement<'_>,
     slots: &Slots,
@@ -86,7 +87,7 @@ fn compared(
     Ok(Check { test, is_to_hold })
 }
 
-/// Takes a test, of which `not` was taken if it stands before it.
+/// Takes a test after its `not`, if it has one.
 fn bare_check(
     alloc: Global,
     statement: &mut Statement<'_>,
@@ -127,7 +128,7 @@ fn read_check(
     })
 }
 
-/// Takes a condition and the `{` behind it.
+/// Takes a condition and the `{` after it.
 pub fn read_condition(
     alloc: Global,
     statement: &mut Statement<'_>,

@@ -15,7 +15,7 @@ use std::alloc::{AllocError, Global};
 #[derive(Drop)]
 struct EntryLine {
     alloc: Global,
-    /// The line of a user, with 0 for each value.
+    /// The entry as a line of a user, with 0 for each value.
     line: Vec<u8>,
     /// The entry as the script has it.
     text: Vec<u8>,
@@ -25,13 +25,13 @@ struct EntryLine {
     count: usize,
 }
 
-/// Whether a word is a value that is filled in.
+/// Returns whether a word is a value that is filled in.
 fn is_filled(word: &[u8]) -> bool {
     matches!(word, [b'$', ..])
 }
 
 impl EntryLine {
-    /// The entry of a thread that begins with this word.
+    /// Returns the entry of a thread, as far as its first word.
     fn new(alloc: Global, thread: ObjId, key: &[u8]) -> Result<EntryLine, AllocError> {
         let serial = thread.serial;
         let head = format!(in alloc; "user t{serial} ")?;
@@ -46,7 +46,7 @@ impl EntryLine {
         })
     }
 
-    /// Adds a word to the line that is read: 0 for a value, and a number after `0x` in decimal.
+    /// Adds a word to the line: 0 for a value, and decimal for a number after `0x`.
     fn add_to_line(&mut self, word: &[u8]) -> Result<(), AllocError> {
         self.line.push(b' ')?;
         if is_filled(word) {
@@ -71,8 +71,8 @@ impl EntryLine {
         Ok(())
     }
 
-    /// Which word of the message the next word is, None where it is the label. NoMessage where it
-    /// is neither.
+    /// Returns which word of the message the next word is; None for the label. `NoMessage` if it is
+    /// neither.
     fn message_word(&self, word: &[u8]) -> Result<Option<u8>, ProgramFault> {
         if let Some(label) = self.label {
             if self.count == label {
@@ -103,8 +103,8 @@ impl EntryLine {
     }
 }
 
-/// Returns the slot of a value in a message: that of a word that is kept, or one of its own, where
-/// the value is put before the entry.
+/// Returns the slot for a value in a message: that of the kept word, or a slot of its own, to which
+/// the value is assigned before the entry.
 fn slot_of(code: &mut Code, slots: &mut Slots, source: Source) -> Result<Slot, ProgramFault> {
     match source {
         Source::Saved(slot) => Ok(slot),
@@ -116,8 +116,8 @@ fn slot_of(code: &mut Code, slots: &mut Slots, source: Source) -> Result<Slot, P
     }
 }
 
-/// Takes the words that are left of an entry of a thread, of which the first was taken, and adds
-/// the lines that give it.
+/// Takes the rest of an entry of a thread after its first word, and adds the lines that give the
+/// entry.
 pub fn read_entry(
     alloc: Global,
     thread: ObjId,

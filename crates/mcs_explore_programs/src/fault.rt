@@ -5,7 +5,7 @@ use mcs_types::OutOfMemory;
 use std::alloc::{AllocError, AllocFailed};
 use thiserror::Error;
 
-/// Why a line of a program is refused. The text names the word, and what there is.
+/// Why a line of a program is refused. The text names the word and lists what is possible.
 #[derive(Debug, Drop, Error)]
 pub enum ProgramFault {
     #[error("{word} names no thread; those are: {there}")]

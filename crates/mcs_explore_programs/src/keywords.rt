@@ -2,10 +2,10 @@
 use mcs_lab_forms::{FORMS, Fields, form_of};
 use mcs_text::find_boot_key;
 
-/// The words with which statements begin that are no entries, as a fault lists them.
+/// The keywords of statements that are no entries, as a fault lists them.
 pub const KEYWORDS: &str = "let, forever, while, repeat, if, {, }, break, continue, stop";
 
-/// A word with which a statement begins that is no entry.
+/// A keyword of a statement that is no entry.
 #[derive(Clone, Copy)]
 pub enum Keyword {
     Let,
@@ -38,7 +38,7 @@ impl Keyword {
         }
     }
 
-    /// Whether it opens a block.
+    /// Returns whether it opens a block.
     pub fn opens(self) -> bool {
         match self {
             Keyword::Forever | Keyword::While | Keyword::Repeat | Keyword::If | Keyword::Open => {
@@ -50,7 +50,7 @@ impl Keyword {
     }
 }
 
-/// How a word that is kept changes.
+/// How a kept word changes.
 #[derive(Clone, Copy)]
 pub enum Change {
     Set,
@@ -59,7 +59,7 @@ pub enum Change {
 }
 
 impl Change {
-    /// The change that a sign says.
+    /// Returns the change that an operator means.
     pub fn of(word: &[u8]) -> Option<Change> {
         match word {
             b"=" => Some(Change::Set),
@@ -70,7 +70,7 @@ impl Change {
     }
 }
 
-/// The form of the entries that a word begins; None where it begins none.
+/// The form of the entries that a word begins; None if it begins none.
 fn entry_form(word: &[u8]) -> Option<Fields<'static>> {
     if matches!(word, b"=" | b"+") || find_boot_key(word).is_some() {
         return None;
@@ -78,13 +78,13 @@ fn entry_form(word: &[u8]) -> Option<Fields<'static>> {
     form_of(None, word)
 }
 
-/// Whether a word begins an entry.
+/// Returns whether a word begins an entry.
 pub fn is_entry(word: &[u8]) -> bool {
     entry_form(word).is_some()
 }
 
-/// Where the label stands among the words of an entry that a word begins; None where it begins
-/// none with a message.
+/// Returns the position of the label among the words of an entry with this first word; None if it
+/// has no message.
 pub fn label_place(word: &[u8]) -> Option<usize> {
     let mut fields = entry_form(word)?;
     for place in 1..=FORMS.len() {
@@ -95,12 +95,12 @@ pub fn label_place(word: &[u8]) -> Option<usize> {
     None
 }
 
-/// Whether a name may have this byte.
+/// Returns whether a name may have this byte.
 fn is_of_name(byte: u8) -> bool {
     byte.is_ascii_alphanumeric() || byte == b'_' || byte == b'-' || byte == b'.'
 }
 
-/// Whether a word may be a name: it begins with a letter.
+/// Returns whether a word may be a name: it begins with a letter.
 pub fn is_name(word: &[u8]) -> bool {
     match word {
         [first, rest @ ..] => {
@@ -110,7 +110,7 @@ pub fn is_name(word: &[u8]) -> bool {
     }
 }
 
-/// Whether a word may be the name of one that is kept: it says nothing else.
+/// Returns whether a word may name a kept word: it has no other meaning.
 pub fn is_kept_name(word: &[u8]) -> bool {
     let is_taken = matches!(word, b"badge" | b"word" | b"label" | b"else");
     is_name(word) && !is_taken && !is_entry(word) && Keyword::of(word).is_none()

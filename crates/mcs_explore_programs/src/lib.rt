@@ -1,14 +1,14 @@
-//! Programs of users in scripts: they branch and loop by what their last entry was told. A line
-//! of one is a statement; this crate reads them, thread by thread.
+//! Programs of users in scripts: they branch and loop on the result of their last entry. Each line
+//! is a statement; this crate reads them, thread by thread.
 //!
 //! ```text
 //! `if $label == 2 {` ── statement ──> its words, without the comment
-//!     ── program ──> what it says, by keywords, and a `ProgramFault` that names the word
-//!         values, conditions ──> `Source`, `Test`: numbers, what was told, words that are kept
-//!         slots ──> the words that are kept, of which each block clears its own
-//!         blocks ──> loops and arms that are open
+//!     ── program ──> its meaning, by keywords, and a `ProgramFault` that names the word
+//!         values, conditions ──> `Source`, `Test`: constants, the last result, kept words
+//!         slots ──> the kept words, of which each block clears its own
+//!         blocks ──> open loops and arms
 //!         entries ──> an entry as users have them, and what is filled into its message
-//!     ── code ──> `Op`: the lines by which a user goes on
+//!     ── code ──> `Op`: the lines that a user runs
 //!         rounds ──> no loop goes round without an entry
 //! ```
 #![tactic(auto)]

@@ -1,8 +1,8 @@
-//! What the text of a fault shows of a script: a word, and what there is.
+//! The parts of a fault's text: a word of the script, and the alternatives.
 use std::alloc::{AllocError, Global};
 use std::fmt;
 
-/// A word of a line. It is shown with each byte escaped that is not printable.
+/// A word of a line, shown with unprintable bytes escaped.
 #[derive(Debug, Drop)]
 pub struct Word {
     bytes: Vec<u8>,
@@ -23,10 +23,10 @@ impl fmt::Display for Word {
     }
 }
 
-/// How many of what there is are listed at most.
+/// How many alternatives a fault lists at most.
 const TOLD: usize = 8;
 
-/// What there is, as it is listed: eight of them at most.
+/// A list of alternatives for a fault: at most eight.
 #[derive(Debug, Drop)]
 pub struct Listed {
     bytes: Vec<u8>,
@@ -34,7 +34,7 @@ pub struct Listed {
 }
 
 impl Listed {
-    /// Nothing.
+    /// Returns an empty list.
     pub fn new(alloc: Global) -> Listed {
         Listed {
             bytes: Vec::new(alloc),
@@ -42,7 +42,7 @@ impl Listed {
         }
     }
 
-    /// Adds one, or two dots in place of all after the eighth.
+    /// Adds an alternative; two dots stand for all after the eighth.
     pub fn add(&mut self, what: &[u8]) -> Result<(), AllocError> {
         let count = self.count;
         self.count = count.saturating_add(1);

@@ -32,8 +32,8 @@ pub struct Label {
     pub last: usize,
 }
 
-/// A program: its entries, in the order of the script, the lines by which a user goes on, what is
-/// filled into messages, and the names of entries and blocks.
+/// A program: its entries in the order of the script, its lines, what is filled into messages, and
+/// the names of entries and blocks.
 #[derive(Drop)]
 pub struct Program {
     pub thread: ObjId,
@@ -48,7 +48,7 @@ pub struct Program {
 pub struct ProgramLines {
     alloc: Global,
     thread: ObjId,
-    /// How many lines were read, and the last of them by its number in the script.
+    /// How many lines were read, and the script's number of the last one.
     count: usize,
     line: u64,
     code: Code,
@@ -60,7 +60,7 @@ pub struct ProgramLines {
 impl ProgramLines {
     ghost use Rattle.mcs_explore_programs.specs.Programs.{IsProgram};
 
-    /// Before its first line.
+    /// Returns a program of which no line was read yet.
     pub fn new(alloc: Global, thread: ObjId) -> ProgramLines {
         ProgramLines {
             alloc,
@@ -79,12 +79,12 @@ impl ProgramLines {
         self.thread
     }
 
-    /// A copy of a word, as a fault names it.
+    /// Returns a copy of a word for a fault.
     fn word(&self, word: &[u8]) -> Result<Word, AllocError> {
         Word::new(self.alloc, word)
     }
 
-    /// Reads the statement of a line of the script, of which this is the number.
+    /// Reads the statement of the script's line with this number.
     pub fn take(&mut self, line: u64, text: &[u8]) -> Result<(), FaultyLine> {
         self.line = line;
         match self.take_statement(text) {
@@ -109,7 +109,7 @@ impl ProgramLines {
         }
     }
 
-    /// Reads a statement that begins with a keyword, which was taken.
+    /// Reads a statement after its keyword.
     fn take_keyword(
         &mut self,
         keyword: Keyword,
@@ -141,7 +141,7 @@ impl ProgramLines {
         }
     }
 
-    /// Reads a statement that begins with another word, which was taken.
+    /// Reads a statement after its first word, which is no keyword.
     fn take_other(&mut self, word: &[u8], words: &mut Statement<'_>) -> Result<(), ProgramFault> {
         if let [name @ .., b':'] = word {
             return self.take_named(name, words);
@@ -171,7 +171,7 @@ impl ProgramLines {
         )
     }
 
-    /// Reads an entry behind its name, or what opens a block. NoEntry where it is neither.
+    /// Reads what follows a name: an entry, or the opening of a block. `NoEntry` if it is neither.
     fn take_named(&mut self, name: &[u8], words: &mut Statement<'_>) -> Result<(), ProgramFault> {
         let place = self.labels.len();
         self.add_label(name)?;
@@ -193,8 +193,7 @@ impl ProgramLines {
         }
     }
 
-    /// Adds the name of the next entry. Not where it can't be one, NamedTwice where it is one
-    /// already.
+    /// Names the next entry. `Not` if the word cannot be a name, `NamedTwice` if it is one already.
     fn add_label(&mut self, name: &[u8]) -> Result<(), ProgramFault> {
         let word = self.word(name)?;
         if !is_name(name) {
@@ -219,7 +218,7 @@ impl ProgramLines {
         Ok(())
     }
 
-    /// Ends the block of a name here. NamesNothing where it has no entry.
+    /// Ends the block of a name here. `NamesNothing` if it has no entry.
     fn end_label(&mut self, place: Option<usize>) -> Result<(), ProgramFault> {
         let count = self.code.entries();
         let Some(place) = place else {
@@ -237,7 +236,7 @@ impl ProgramLines {
         Ok(())
     }
 
-    /// Reads a word that is kept from now on: `let NAME = value`.
+    /// Reads `let NAME = value`, which keeps a word.
     fn keep(&mut self, words: &mut Statement<'_>) -> Result<(), ProgramFault> {
         let name = words.need("a name")?;
         if !is_kept_name(name) {
@@ -258,7 +257,7 @@ impl ProgramLines {
         Ok(())
     }
 
-    /// Reads how a word that is kept changes, from the sign on.
+    /// Reads how a kept word changes, from the operator on.
     fn change(
         &mut self,
         name: &[u8],
@@ -280,7 +279,7 @@ impl ProgramLines {
         Ok(())
     }
 
-    /// Opens a block. Deep where too many are open.
+    /// Opens a block. `Deep` if too many are open.
     fn open(&mut self, kept: usize, shape: Shape) -> Result<(), ProgramFault> {
         if self.blocks.len() >= DEPTH {
             return Err(ProgramFault::Deep { limit: DEPTH });
@@ -326,7 +325,7 @@ impl ProgramLines {
         self.open(kept, Shape::Loop(round))
     }
 
-    /// Opens a loop of so many rounds, which a word of its own counts.
+    /// Opens a loop of `count` rounds, which a kept word counts.
     fn open_repeat(&mut self, words: &mut Statement<'_>) -> Result<(), ProgramFault> {
         let kept = self.slots.count();
         let rounds = words.number(1, u64::MAX, "a number of rounds, 1 or more")?;
@@ -352,7 +351,7 @@ impl ProgramLines {
         self.open(kept, Shape::Arms(arms))
     }
 
-    /// Reads a condition, and returns the lines that go on elsewhere where it fails.
+    /// Reads a condition, and returns the indices of the lines that jump if it fails.
     fn open_condition(&mut self, words: &mut Statement<'_>) -> Result<Vec<usize>, ProgramFault> {
         let checks = read_condition(self.alloc, words, &self.slots)?;
         let mut skips = Vec::new(self.alloc);
@@ -393,7 +392,7 @@ impl ProgramLines {
         self.end_label(label)
     }
 
-    /// Closes a loop. EmptyRound where a round may give no entry.
+    /// Closes a loop. `EmptyRound` if a round is possible that gives no entry.
     fn close_loop(&mut self, line: u64, kept: usize, round: Round) -> Result<(), ProgramFault> {
         let head = round.head(kept);
         self.code.release(&mut self.slots, head.kept)?;
@@ -452,8 +451,8 @@ impl ProgramLines {
         })
     }
 
-    /// Adds the lines that begin the next round of a loop, if one is left, and returns the line
-    /// that leaves it where its rounds are counted.
+    /// Adds the lines that begin the next round of a loop, if one is left. Returns the index of the
+    /// line that leaves the loop, if its rounds are counted.
     fn go_round(&mut self, head: RoundHead) -> Result<Option<usize>, AllocError> {
         let mut exit = None;
         if let Some(counter) = head.counter {
@@ -467,7 +466,8 @@ impl ProgramLines {
         Ok(exit)
     }
 
-    /// The place of the innermost loop among the blocks, and that loop. NoLoop where none is open.
+    /// Returns the index of the innermost loop among the open blocks, and the loop. `NoLoop` if
+    /// none is open.
     fn innermost_loop(&self, word: &[u8]) -> Result<(usize, RoundHead), ProgramFault> {
         for place in (0..self.blocks.len()).rev() {
             if let Some(head) = self.blocks.get(place).and_then(|block| block.head()) {
@@ -479,7 +479,7 @@ impl ProgramLines {
         })
     }
 
-    /// Adds a line that leaves the loop in a place among the blocks.
+    /// Adds a line that leaves the loop at an index among the blocks.
     fn add_exit(&mut self, place: usize, at: usize) -> Result<(), AllocError> {
         match self.blocks.get_mut(place) {
             Some(block) => block.add_exit(at),
@@ -506,8 +506,8 @@ impl ProgramLines {
         Ok(())
     }
 
-    /// Ends the program, whose lines were all read. Open where a block is, NoEntries where there is
-    /// none.
+    /// Ends the program after its last line. `Open` if a block is open, `NoEntries` if there is no
+    /// entry.
     pub fn end(self) -> Result<Program, FaultyLine>
         ensures { IfOk result IsProgram }
     {
@@ -530,7 +530,7 @@ impl ProgramLines {
         }
     }
 
-    /// The program, where no block is open.
+    /// Returns the program, if no block is open.
     fn finish(mut self) -> Result<Program, AllocError>
         requires { 0 < length self.code.entries }
         ensures { IfOk result IsProgram }

@@ -2,8 +2,8 @@
 use mcs_turns::Op;
 use std::alloc::{AllocError, Global};
 
-/// Some lines of a program, from a place on, and which of them lead back to the first of them by a
-/// way that gives no entry, as far as that is known.
+/// Some lines of a program, from an index on, and which of them are known to lead back to the first
+/// one without an entry.
 #[derive(Drop)]
 struct Ways<'a> {
     ops: &'a [Op],
@@ -12,7 +12,7 @@ struct Ways<'a> {
 }
 
 impl<'a> Ways<'a> {
-    /// Whether a way to this place is known to lead back to the first line.
+    /// Returns whether the line at this index is known to lead back to the first line.
     fn is_back(&self, place: usize) -> bool {
         if place == self.start {
             return true;
@@ -23,8 +23,8 @@ impl<'a> Ways<'a> {
         }
     }
 
-    /// Whether the line in a place is known to lead back: it gives no entry, and a place where it
-    /// may go on does.
+    /// Returns whether a line is known to lead back: it gives no entry, and one of its successors
+    /// leads back.
     fn leads_back(&self, op: Op, place: usize) -> bool {
         let next = place.saturating_add(1);
         match op {
@@ -35,7 +35,7 @@ impl<'a> Ways<'a> {
         }
     }
 
-    /// Looks at the line with a number, and returns whether it was not known before to lead back.
+    /// Updates what is known of the line with a number, and returns whether that changed.
     fn look_at(&mut self, number: usize) -> bool {
         let Some(op) = self.ops.get(number).copied() else {
             return false;
@@ -48,7 +48,7 @@ impl<'a> Ways<'a> {
         true
     }
 
-    /// Looks at each line once, the last one first, and returns whether more is known then.
+    /// Updates all lines once, last to first, and returns whether anything changed.
     fn look(&mut self) -> bool {
         let mut is_more = false;
         for number in (0..self.ops.len()).rev() {
@@ -60,8 +60,8 @@ impl<'a> Ways<'a> {
     }
 }
 
-/// Whether a way leads from the line in a place back to it through later lines alone, and gives no
-/// entry.
+/// Returns whether a loop without an entry leads from the line at an index, through later lines
+/// only, back to it.
 pub fn goes_round(alloc: Global, ops: &[Op], start: usize) -> Result<bool, AllocError> {
     let Some(ops) = ops.get(start..) else {
         return Ok(false);

@@ -1,4 +1,4 @@
-//! The words that a program keeps: each has a slot while its block, or its entry, lasts.
+//! The kept words of a program: each has a slot for the duration of its block or its entry.
 use crate::fault::ProgramFault;
 use crate::naming::{Listed, Word};
 use mcs_turns::Slot;
@@ -18,7 +18,7 @@ enum Holder {
     Value,
 }
 
-/// The slots that are taken: the last one is given back first.
+/// The slots in use; the last one taken is freed first.
 #[derive(Drop)]
 pub struct Slots {
     alloc: Global,
@@ -37,7 +37,7 @@ fn slot_at(number: usize) -> Option<Slot> {
 }
 
 impl Holder {
-    /// Whether it is the word of a name.
+    /// Returns whether it is the kept word of this name.
     fn is_named(&self, name: &[u8]) -> bool {
         match self {
             Holder::Name(other) => other.as_slice() == name,
@@ -47,7 +47,7 @@ impl Holder {
 }
 
 impl Slots {
-    /// All are free.
+    /// Returns slots that are all free.
     pub fn new(alloc: Global) -> Slots {
         Slots {
             alloc,
@@ -55,7 +55,7 @@ impl Slots {
         }
     }
 
-    /// How many are taken.
+    /// Returns how many are taken.
     pub fn count(&self) -> usize {
         self.holders.len()
     }
@@ -78,7 +78,7 @@ impl Slots {
         )
     }
 
-    /// The slot of a name. NotKept where no word of it is kept.
+    /// Returns the slot of a name. `NotKept` if no word of this name is kept.
     pub fn need(&self, name: &[u8]) -> Result<Slot, ProgramFault> {
         match self.find(name) {
             Some(slot) => Ok(slot),
@@ -101,7 +101,7 @@ impl Slots {
         Ok(there)
     }
 
-    /// Takes a slot. ManyWords where all are taken.
+    /// Takes a slot. `ManyWords` if all are in use.
     fn hold(&mut self, holder: Holder) -> Result<Slot, ProgramFault> {
         let Some(slot) = slot_at(self.holders.len()) else {
             return Err(ProgramFault::ManyWords { limit: SLOTS });
@@ -126,7 +126,7 @@ impl Slots {
         self.hold(Holder::Value)
     }
 
-    /// Gives back the slot that was taken last, if more than this many are.
+    /// Frees the slot taken last, if more than `count` are in use.
     pub fn release(&mut self, count: usize) -> Option<Slot> {
         let last = self.holders.len().checked_sub(1)?;
         if last < count {

@@ -13,12 +13,12 @@ pub struct Statement<'a> {
     taken: usize,
 }
 
-/// Whether a byte stands between two words.
+/// Returns whether a byte stands between two words.
 fn is_blank(byte: u8) -> bool {
     byte == b' ' || byte == b'\t'
 }
 
-/// The words of a text, as far as a comment: a word that begins with `#`.
+/// Returns the words of a text up to a comment, that is, a word that begins with `#`.
 fn words_of<'a>(alloc: Global, text: &'a [u8]) -> Result<Vec<&'a [u8]>, AllocError> {
     let mut words = Vec::new(alloc);
     for word in text.split(|byte| is_blank(*byte)) {
@@ -41,12 +41,12 @@ impl<'a> Statement<'a> {
         })
     }
 
-    /// How many words are left.
+    /// Returns how many words are left.
     pub fn left(&self) -> usize {
         self.words.len().saturating_sub(self.taken)
     }
 
-    /// The next word, which is left, if there is one.
+    /// Returns the next word without taking it, if there is one.
     pub fn peek(&self) -> Option<&'a [u8]> {
         self.words.get(self.taken).copied()
     }
@@ -67,7 +67,7 @@ impl<'a> Statement<'a> {
         is_next
     }
 
-    /// Takes the next word. Missing where none is left.
+    /// Takes the next word. `Missing` if none is left.
     pub fn need(&mut self, wanted: &'static str) -> Result<&'a [u8], ProgramFault> {
         match self.next_word() {
             Some(word) => Ok(word),
@@ -75,7 +75,7 @@ impl<'a> Statement<'a> {
         }
     }
 
-    /// Takes this word. Missing where none is left, Not for another.
+    /// Takes this word. `Missing` if none is left, `Not` for another word.
     pub fn expect(&mut self, wanted: &'static str) -> Result<(), ProgramFault> {
         let word = self.need(wanted)?;
         if word == wanted.as_bytes() {
@@ -84,7 +84,7 @@ impl<'a> Statement<'a> {
         Err(self.not(word, wanted))
     }
 
-    /// Fails with TooMany where a word is left.
+    /// Fails with `TooMany` if a word is left.
     pub fn end(&self) -> Result<(), ProgramFault> {
         match self.peek() {
             None => Ok(()),
@@ -100,7 +100,7 @@ impl<'a> Statement<'a> {
         self.end()
     }
 
-    /// The fault of a word that is not what is wanted.
+    /// Returns the fault for a word that is not what is wanted.
     pub fn not(&self, word: &[u8], wanted: &'static str) -> ProgramFault {
         match Word::new(self.alloc, word) {
             Ok(word) => ProgramFault::Not { word, wanted },
@@ -108,7 +108,7 @@ impl<'a> Statement<'a> {
         }
     }
 
-    /// Takes a number, from one to another. Not where the next word is another.
+    /// Takes a number between two bounds. `Not` if the next word is none.
     pub fn number(
         &mut self,
         least: u64,
@@ -123,7 +123,7 @@ impl<'a> Statement<'a> {
     }
 }
 
-/// The number that digits of a base write; None where it is 2^64 or more.
+/// Returns the number that digits of a base write; None from 2^64 on.
 fn digits(word: &[u8], base: u32) -> Option<u64>
     requires least { 2 ≤ base }
     requires most { base ≤ 36 }
@@ -139,12 +139,12 @@ fn digits(word: &[u8], base: u32) -> Option<u64>
     Some(number)
 }
 
-/// The number that decimal digits write; None where it is 2^64 or more.
+/// Returns the number that decimal digits write; None from 2^64 on.
 pub fn decimal(word: &[u8]) -> Option<u64> {
     digits(word, 10)
 }
 
-/// The number that digits after `0x` write; None where it is 2^64 or more, or no `0x` is there.
+/// Returns the number that digits after `0x` write; None from 2^64 on, or without `0x`.
 pub fn hexadecimal(word: &[u8]) -> Option<u64> {
     match word {
         [b'0', b'x', hex @ ..] => digits(hex, 16),

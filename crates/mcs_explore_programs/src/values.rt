@@ -1,14 +1,15 @@
-//! What a word of a program stands for.
+//! The values that words of a program mean.
 use crate::fault::ProgramFault;
 use crate::slots::Slots;
 use crate::statement::{Statement, decimal, number_of};
 use mcs_turns::Source;
 use mcs_types::MESSAGE_WORDS;
 
-/// What a value is.
+/// What faults say about a value.
 const VALUE: &str = "a value: a number, $badge, $word, $label, $1 to $120, or $ and a kept name";
 
-/// The word of the message with a number, from 1. None where no message has so many.
+/// Returns the source for a word of the message, counted from 1; None if no message has this many
+/// words.
 fn word_source(number: u64) -> Option<Source> {
     if number == 0 || number > MESSAGE_WORDS as u64 {
         return None;
@@ -19,8 +20,8 @@ fn word_source(number: u64) -> Option<Source> {
     }
 }
 
-/// What a word stands for. Not where it is no value, NotKept where it names a word that is not
-/// kept.
+/// Returns the source that a word means. `Not` if it is no value, `NotKept` if it names no kept
+/// word.
 pub fn source_of(
     statement: &Statement<'_>,
     slots: &Slots,

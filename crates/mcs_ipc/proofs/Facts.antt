@@ -62,7 +62,7 @@ sent-is R t e mode badge message sound ok = rw (open_of-growing (rec.Sent t e mo
 pub sent-opens : (R : Log) (t e : ObjId) (mode : SendMode) (badge : Badge) (message : Content) → Sound R → IsTrue (is_open (rec.Sent t e mode badge message ∷ R) (next_message R))
 sent-opens R t e mode badge message sound = sent-open R (record { number = next_message R; sender = t; endpoint = e; mode = mode; badge = badge; message = message }) (sound-ends R sound)
 
--- a send where nobody receives
+-- a send where no thread receives
 send-alone : (R : Log) (b : Bool) (mode : SendMode) (t e : ObjId) (badge : Badge) (message : Content) → first_in R (Receivers e) ≡ None → send_act b mode t e badge message R ≡ alone_act b mode t e badge message R
 unfolding send_act sends sends_to
 send-alone R b mode t e badge message none = rw none refl

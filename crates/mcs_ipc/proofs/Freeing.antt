@@ -38,7 +38,7 @@ use Rattle.mcs_state.specs.Now.{Now, so_far, adds_all}
 use Rattle.mcs_ipc.specs.Ready.{IsReceiving, IsReady}
 use Rattle.mcs_ipc.specs.Rows.{stand_act, take_act, taken_by}
 
--- a reply object that nobody uses
+-- a reply object that no thread uses
 free-nobody : (R : Log) (r : ObjId) → owed_by R r ≡ None → receiver_with R r ≡ None → free r R ≡ []
 unfolding free
 free-nobody R r unowed none = ap (λ o. with_any o (λ x. cancel x Inactive) R) (ap (λ o. option_or o (receiver_with R r)) unowed ∙ none)
@@ -109,7 +109,7 @@ module _ (R : Log) (t d r : ObjId) (sound : Sound R) (b : IsReceiving R t d (Som
         reply = (b.reply, (set-self r None (owed_by R r), owed-unattended R r x sound owed));
       }
 
-  -- or nobody
+  -- or no thread
   free-ready : IsReady (onto (free r R) R) t d (Some r)
   free-ready = go (owed_by R r) refl (receiver_with R r) refl
     where
@@ -168,7 +168,7 @@ room-word n b t e r room = go (pending_of_any (so_far n) (bound_of (so_far n) t)
 pub made-silent : (n m : Now) (t : ObjId) → pending_of_any (so_far n) (bound_of (so_far n) t) ≡ None → Makes (takes_bound t) n m → m ≡ n
 made-silent n m t none made = made ∙ ap (λ (more : List Rec). adds_all more n) (bound-silent (so_far n) t none)
 
--- a taking where nobody sends
+-- a taking where no thread sends
 pub take-alone : (R : Log) (b : Bool) (t e : ObjId) (r : Option ObjId) → open_of_any R (first_in R (Senders e)) ≡ None → take_act b t e r R ≡ stand_act R b t e r R
 unfolding take_act take_open
 take-alone R b t e r none = rw none refl

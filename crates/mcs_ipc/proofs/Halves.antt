@@ -191,7 +191,7 @@ still-receives R S t (source.Endpoint at) outlasts stands h = record {
     reply None there = tt
     reply (Some d) there = outlasts (λ L. IsThere L kind.Reply d) (there-send kind.Reply d) there
 
--- a message was handed over with its sender's context, or nobody receives
+-- a message was handed over with its sender's context, or no thread receives
 sent-receives : (R : Log) (t e : ObjId) (badge : Badge) (message : Content) (s : Source) → IsReceivingFrom R t s → IsReceivingFrom (onto ((send_act false how.Give t e badge message R).records) R) t s
 unfolding send_act sends sends_to
 sent-receives R t e badge message s h = go (first_in R (Receivers e)) refl

@@ -30,7 +30,7 @@ pub pays : (R : Log) (r : ObjId) (message : Content) → pay_act r message R ≡
 unfolding pay_act
 pays R r message = refl
 
--- nobody is owed
+-- no thread is owed
 pub pay-nobody : (R : Log) (r : ObjId) (message : Content) → owed_by R r ≡ None → pay r message R ≡ []
 unfolding pay
 pay-nobody R r message none = rw none refl

@@ -33,7 +33,7 @@ use Rattle.mcs_ipc.specs.Ready.{IsReceivingFrom}
 use Rattle.mcs_ipc.specs.Sources.{reply_found, reply_named, with_reply, waitable, notification_source, source_by, source_over, receivable, second_found, replying, replying_by, replying_over, answerable}
 use Rattle.mcs_ipc.proofs.Facts.{woken-reply}
 
--- what t receives from is there; nobody else is bound to a notification on which it waits
+-- what t receives from is there; no other thread is bound to a notification on which it waits
 abbrev pub IsSourceThere : Log → ObjId → Source → Type 0
 IsSourceThere R t (source.Endpoint at) = IsThere R kind.Endpoint at.endpoint × IfSome at.reply (λ r. IsThere R kind.Reply r)
 IsSourceThere R t (source.Notification n) = IsThere R kind.Notification n × NoneElseBound R n t
@@ -117,7 +117,7 @@ replied-there R t a r at sound e = go (capability R t a) refl e
     go (Err why) is h = absurd cc
     go (Ok c) is h = by_kind c.obj.kind c refl (found-alive R t a c sound is) h
 
--- nobody else is bound still, when a thread was woken
+-- no other thread is bound still, when a thread was woken
 woken-alone : (R : Log) (t : ObjId) (m : Mode) (n u : ObjId) → NoneElseBound R n u → NoneElseBound (onto (wakes m t R) R) n u
 woken-alone R t Running n u alone = alone
 woken-alone R t Restart n u alone = alone

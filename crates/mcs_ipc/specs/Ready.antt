@@ -25,7 +25,7 @@ pub record IsReceiving (R : Log) (t e : ObjId) (r : Option ObjId) : Type 0 where
   pub endpoint : IsThere R kind.Endpoint e
   pub reply : IfSome r (λ o. IsThere R kind.Reply o)
 
--- t acts, the notification is there, and nobody else is bound to it
+-- t acts, the notification is there, and no other thread is bound to it
 pub record IsWaiting (R : Log) (t n : ObjId) : Type 0 where
   pub acting : IsActing R t
   pub there : IsThere R kind.Notification n
@@ -42,21 +42,21 @@ IsSendingOver R t (target.Endpoint cap) = IsSending R t cap.obj
 IsSendingOver R t (target.Notification cap) = IsThere R kind.Notification cap.obj
 IsSendingOver R t (target.Reply r) = Unit {0}
 
--- t receives on an endpoint, and nobody uses the reply object
+-- t receives on an endpoint, and no thread uses the reply object
 pub record IsReady (R : Log) (t e : ObjId) (r : Option ObjId) : Type 0 where
   pub acting : IsActing R t
   pub stand : OpenStand R
   pub endpoint : IsThere R kind.Endpoint e
   pub reply : IfSome r (λ o. IsThere R kind.Reply o × IsFreeReply R o)
 
--- x has sent a message that p takes with the reply object r, if there is one; nobody uses r
+-- x has sent a message that p takes with the reply object r, if there is one; no thread uses r
 pub record IsSettling (R : Log) (x p : ObjId) (r : Option ObjId) : Type 0 where
   pub sender : IsThere R kind.Thread x
   pub idle : IsIdle R x
   pub receiver : IsThere R kind.Thread p
   pub reply : IfSome r (λ o. IsThere R kind.Reply o × IsFreeReply R o)
 
--- x has called, and p is to answer by the reply object r, which nobody uses
+-- x has called, and p is to answer by the reply object r, which no thread uses
 pub record IsCalling (R : Log) (r x p : ObjId) : Type 0 where
   pub caller : IsThere R kind.Thread x
   pub idle : IsIdle R x

@@ -86,7 +86,7 @@ abbrev pub send_answer : Checked Bool → Answer
 send_answer (Ok waits) = said waits
 send_answer (Err why) = Refused why
 
--- what t does where nobody receives: it waits in the queue, or the message is dropped
+-- what t does where no thread receives: it waits in the queue, or the message is dropped
 abbrev pub alone_act : Bool → SendMode → ObjId → ObjId → Badge → Content → Act
 alone_act true mode t e badge message = queues (letter_to t e badge mode message)
 alone_act false mode t e badge message = answers Done nothing
@@ -105,7 +105,7 @@ target_act blocks mode t message (target.Endpoint cap) = send_act blocks mode t 
 target_act blocks mode t message (target.Notification cap) = signal_act cap
 target_act blocks mode t message (target.Reply r) = pay_act r message
 
--- what t does where nobody sends: it waits among the receivers, or is answered at once
+-- what t does where no thread sends: it waits among the receivers, or is answered at once
 abbrev pub stand_act : Log → Bool → ObjId → ObjId → Option ObjId → Act
 stand_act R blocks t e r = joins_or blocks (stand t (Receivers e) r (bound_of R t))
 

@@ -39,7 +39,7 @@ with_reply (Ok cap) (Ok reply) = Ok (source.Endpoint (record { endpoint = cap.ob
 abbrev pub endpoint_source : Cap → Checked (Option ObjId) → Checked Source
 endpoint_source cap reply = with_reply (readable (Ok cap)) reply
 
--- the notification of a capability, where nobody else is bound to it
+-- the notification of a capability, where no other thread is bound to it
 abbrev pub waitable : Log → ObjId → Checked Cap → Checked Source
 waitable R t (Err why) = Err why
 waitable R t (Ok cap) = cond (bound_elsewhere (tied_to R cap.obj) t) (Err AlreadyBound) (Ok (source.Notification cap.obj))

@@ -1,4 +1,4 @@
-//! What is tested before a message is sent or received.
+//! The checks before a message is sent or received.
 ghost use Rattle.std.specs.Prelude.{◌≡◌};
 ghost use Rattle.mcs_types.specs.declared.id.Kind.{Kind};
 ghost use Rattle.mcs_book.specs.Sound.{IsThere};
@@ -13,7 +13,7 @@ use mcs_state::{State, find_object, object_at, of_kind, with_read, with_write};
 use mcs_types::{Cap, Kind, ObjId, Refusal};
 
 /// What a thread sends over: an endpoint or a notification, by this capability, or a reply object,
-/// which it pays.
+/// to which it replies.
 #[derive(Clone, Copy)]
 pub enum Target {
     Endpoint(Cap),
@@ -36,7 +36,7 @@ pub enum Source {
     Notification(ObjId),
 }
 
-/// The reply object that a thread pays, and what it then receives from.
+/// The reply object to which a thread replies, and what it then receives from.
 #[derive(Clone, Copy)]
 pub struct Replying {
     pub reply: ObjId,
@@ -50,7 +50,7 @@ pub struct Exchange {
     pub source: Source,
 }
 
-/// The reply object at an address, where one is named.
+/// Returns the reply object at an address; None if no address is given.
 fn find_reply<W: Waiting>(
     state: &State<W>,
     thread: ObjId,
@@ -68,8 +68,8 @@ fn find_reply<W: Waiting>(
     }
 }
 
-/// What a thread sends over.
-// a part of its caller, so that the answer of 56 bytes is not put together and read again
+/// Returns what a thread sends over.
+// inlined, so that the answer of 56 bytes is not stored and read again
 #[inline(always)]
 pub fn target_to_send<W: Waiting>(
     state: &State<W>,
@@ -90,7 +90,7 @@ pub fn target_to_send<W: Waiting>(
     }
 }
 
-/// The capability over which a thread calls.
+/// Returns the capability over which a thread calls.
 pub fn cap_to_call<W: Waiting>(
     state: &State<W>,
     thread: ObjId,
@@ -103,7 +103,7 @@ pub fn cap_to_call<W: Waiting>(
     Ok(by_fields(&cap))
 }
 
-/// The endpoint of a capability, and the reply object at an address, where one is named.
+/// Returns the endpoint of a capability, and the reply object at an address, if one is given.
 fn endpoint_source<W: Waiting>(
     state: &State<W>,
     thread: ObjId,
@@ -121,7 +121,7 @@ fn endpoint_source<W: Waiting>(
     }))
 }
 
-/// The notification of a capability, where the thread may wait on it.
+/// Returns the notification of a capability, if the thread may wait on it.
 fn notification_source<W: Waiting>(
     state: &State<W>,
     thread: ObjId,
@@ -136,7 +136,7 @@ fn notification_source<W: Waiting>(
     Ok(Source::Notification(cap.obj))
 }
 
-/// What a thread receives from. A reply object is looked up for an endpoint alone.
+/// Returns what a thread receives from. A reply object is looked up for an endpoint only.
 #[inline(always)]
 pub fn source_to_receive<W: Waiting>(
     state: &State<W>,
@@ -155,7 +155,7 @@ pub fn source_to_receive<W: Waiting>(
     }
 }
 
-/// The reply object that a thread pays before it receives over a capability.
+/// Returns the reply object to which a thread replies before it receives over a capability.
 fn reply_to_pay<W: Waiting>(
     state: &State<W>,
     thread: ObjId,
@@ -169,7 +169,7 @@ fn reply_to_pay<W: Waiting>(
     object_at(state, thread, Kind::Reply, reply)
 }
 
-/// The reply object that a thread pays, and what it then receives from.
+/// Returns the reply object to which a thread replies, and what it then receives from.
 pub fn source_to_reply<W: Waiting>(
     state: &State<W>,
     thread: ObjId,
@@ -194,7 +194,7 @@ pub fn source_to_reply<W: Waiting>(
     Ok(Replying { reply, source })
 }
 
-/// What a thread sends over, and what it then receives from.
+/// Returns what a thread sends over, and what it then receives from.
 pub fn ends_of_exchange<W: Waiting>(
     state: &State<W>,
     thread: ObjId,

@@ -15,15 +15,16 @@ use mcs_object_queues::Waiting;
 use mcs_state::{Change, State, change_awake, find_object, wake};
 use mcs_types::{CoreId, Kind, ObjId, Refusal};
 
-/// Whether nobody holds a context, it is homed nowhere, and no reply object is in its chain.
+/// Returns whether a context is loose: no thread holds it, it is homed nowhere, and its chain is
+/// empty.
 fn is_loose<W: Waiting>(state: &State<W>, context: ObjId) -> bool
     ensures { result ≡ is_loose (so_far state.now) context }
 {
     state.holder(context).is_none() && state.home_of(context).is_none() && state.is_unlent(context)
 }
 
-/// What a bind changes: a loose context is given to a thread that holds none, or homed at a
-/// notification at which none is.
+/// Returns the change that a bind makes: a loose context is given to a thread that holds none, or
+/// homed at a notification that is no home.
 fn give<W: Waiting>(state: &State<W>, context: ObjId, object: ObjId) -> Result<Change, Refusal>
     ensures { result ≡ given object.kind (so_far state.now) context object }
 {
@@ -49,7 +50,7 @@ fn give<W: Waiting>(state: &State<W>, context: ObjId, object: ObjId) -> Result<C
     }
 }
 
-/// What a bind changes.
+/// Returns the change that BindCtx makes.
 fn find_change<W: Waiting>(
     state: &State<W>,
     thread: ObjId,
@@ -66,7 +67,7 @@ fn find_change<W: Waiting>(
 
 /// Performs BindCtx: a thread gets the context, or it is homed at a notification (own). The
 /// refusals are 1 to 3 of the lookups, the context's first, and 4 for a capability of another kind;
-/// then 9 where the context is held, homed, or a reply object is in its chain (own), and where the
+/// then 9 if the context is held, homed, or a reply object is in its chain (own), and where the
 /// thread holds one or another context is homed at the notification. They change nothing (manual:
 /// Threads and Execution).
 pub fn bind_context<W: Waiting>(
@@ -87,7 +88,7 @@ pub fn bind_context<W: Waiting>(
     Ok(())
 }
 
-/// The context that an unbind names: somebody holds it, or it is homed.
+/// Returns the context that an unbind names, if a thread holds it or it is homed.
 fn find_bound<W: Waiting>(state: &State<W>, thread: ObjId, context: u64) -> Result<ObjId, Refusal>
     requires { IsThere (so_far state.now) Kind.Thread thread }
     ensures { result ≡ unbindable (so_far state.now) thread context }
@@ -100,7 +101,7 @@ fn find_bound<W: Waiting>(state: &State<W>, thread: ObjId, context: u64) -> Resu
     }
 }
 
-/// Wakes the thread that enters, and takes a context from its home and its holder.
+/// Wakes the entering thread, and takes a context from its home and its holder.
 fn unbind_awake<W: Waiting>(state: &mut State<W>, thread: ObjId, context: ObjId)
     requires entering { IsEntering (so_far state.old) thread }
     requires room { FitsAwake thread (unbinds context) state.old }
@@ -111,7 +112,7 @@ fn unbind_awake<W: Waiting>(state: &mut State<W>, thread: ObjId, context: ObjId)
 }
 
 /// Performs UnbindCtx: the context is taken from its holder, and homed nowhere. The refusals are 1
-/// to 3 of the lookup, 4 for a capability of another kind, and 10 where nobody holds it and it is
+/// to 3 of the lookup, 4 for a capability of another kind, and 10 if no thread holds it and it is
 /// homed nowhere; they change nothing (manual: Threads and Execution; own).
 pub fn unbind_context<W: Waiting>(
     state: &mut State<W>,

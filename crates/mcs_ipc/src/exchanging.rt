@@ -13,7 +13,7 @@ use mcs_object_queues::Waiting;
 use mcs_state::{State, wake};
 use mcs_types::{Answer, BOOK_LINES, Copies, CoreId, ObjId, SendMode};
 
-/// Sends what does not wait, with the thread's context, and then receives.
+/// Sends without blocking, with the thread's context, and then receives.
 fn send_and_receive<W: Waiting>(
     state: &mut State<W>,
     thread: ObjId,
@@ -33,10 +33,10 @@ fn send_and_receive<W: Waiting>(
     receive_from(state, thread, at.source, true, answer)
 }
 
-/// Performs NBSendRecv where a reply object is named, and NBSendWait where not. The thread sends as
-/// by NBSend; then it receives as by Recv or Wait over a second capability, which gives the answer.
-/// Where a receiver that holds no context takes the message, the thread's context goes along, and
-/// nobody owes anything for it. All tests come first, those of the send before those of the
+/// Performs NBSendRecv if a reply object is named, and NBSendWait if not. The thread sends as by
+/// NBSend; then it receives as by Recv or Wait over a second capability, which gives the answer. If
+/// a receiver that holds no context takes the message, the thread's context goes along, and no
+/// thread owes anything for it. All tests come first, those of the send before those of the
 /// receive: the refusals are those of NBSend and of Recv, and change nothing (own).
 pub fn exchange<W: Waiting>(
     state: &mut State<W>,

@@ -1,4 +1,4 @@
-//! Sending, calling and receiving on endpoints and notifications, answers to callers, and giving
+//! Sending, calling and receiving on endpoints and notifications, replies to callers, and binding
 //! contexts to threads. Each call adds the records of its row of the table, and gives that row's
 //! answer (manual: Message Passing; Notifications; Threads and Execution).
 #![tactic(auto)]

@@ -20,8 +20,8 @@ use mcs_object_queues::Waiting;
 use mcs_state::{State, wake};
 use mcs_types::{Answer, Copies, CoreId, Mode, ObjId, Queue};
 
-/// Cancels the thread that uses a reply object, the caller that it owes or the receiver that is
-/// queued with it: it becomes inactive (own).
+/// Cancels the thread that uses a reply object, whether it is owed a reply or queued with the
+/// object as a receiver: it becomes Inactive (own).
 fn free<W: Waiting>(state: &mut State<W>, reply: ObjId)
     requires there { IsThere (so_far state.old) Kind.Reply reply }
     requires room { HasRoomFor (freed reply) state.old }
@@ -34,7 +34,7 @@ fn free<W: Waiting>(state: &mut State<W>, reply: ObjId)
     }
 }
 
-/// Does the same where there is a reply object, else nothing.
+/// Frees a reply object as `free` does, if one is given.
 fn free_any<W: Waiting>(state: &mut State<W>, reply: Option<ObjId>)
     requires there { IfSome reply (λ r. IsThere (so_far state.old) Kind.Reply r) }
     requires room { HasRoomFor (with_any reply freed) state.old }
@@ -46,9 +46,9 @@ fn free_any<W: Waiting>(state: &mut State<W>, reply: Option<ObjId>)
     }
 }
 
-/// Waits among the receivers, where the thread blocks; its context goes home where that is the
-/// notification bound to the thread (own).
-// a part of its caller, so that neither registers nor the reply object go through memory
+/// Queues the thread among the receivers. Its context goes home, if that is the notification bound
+/// to the thread (own).
+// inlined, so that registers and the reply object do not go through memory
 #[inline(always)]
 fn stand<W: Waiting>(
     state: &mut State<W>,
@@ -78,7 +78,7 @@ fn stand<W: Waiting>(
     }
 }
 
-/// Takes the message of the first sender. Where nobody sends, the thread waits if it blocks.
+/// Takes the message of the first sender. If no thread sends, the thread waits if it blocks.
 fn take_first<W: Waiting>(
     state: &mut State<W>,
     thread: ObjId,
@@ -111,7 +111,7 @@ fn take_first<W: Waiting>(
 }
 
 /// Hears the pending word of the thread's notification, or else takes the message of the first
-/// sender. Where there is neither, the thread waits if it blocks (manual: Notifications; Message
+/// sender. If there is neither, the thread waits if it blocks (manual: Notifications; Message
 /// Passing).
 fn hear_or_take<W: Waiting>(
     state: &mut State<W>,
@@ -133,7 +133,7 @@ fn hear_or_take<W: Waiting>(
     }
 }
 
-/// Frees the reply object, and receives: a pending word comes before a message. Where there is
+/// Frees the reply object, and receives: a pending word comes before a message. If there is
 /// neither, the thread waits if it blocks.
 fn receive_on<W: Waiting>(
     state: &mut State<W>,
@@ -153,7 +153,7 @@ fn receive_on<W: Waiting>(
 }
 
 /// Receives on an endpoint, or waits on a notification.
-// a part of its callers, so that the answer is moved once less
+// inlined, so that the answer is moved once less
 #[inline(always)]
 pub fn receive_from<W: Waiting>(
     state: &mut State<W>,
@@ -174,15 +174,15 @@ pub fn receive_from<W: Waiting>(
     }
 }
 
-/// Performs Recv and Wait where it blocks, and NBRecv and NBWait where not; Recv and NBRecv name a
-/// reply object. Over an endpoint the reply object's present user is cancelled; then the pending
-/// word of the thread's notification is heard, or else the message of the first sender is taken.
-/// Where there is neither, the thread waits among the receivers, with the reply object, if it
-/// blocks, and otherwise the answer is Empty; the reply object's user is cancelled all the same
-/// (own). Over a notification its pending word is heard, or else the thread waits on it, or is
-/// answered Empty; the reply object is not looked up. The refusals are 1 to 3 of the lookups, 4 for
-/// a capability of another kind, 5 where Read is missing, and 9 where the notification is bound to
-/// another thread; they change nothing (manual: Message Passing; Notifications).
+/// Performs Recv and Wait if it blocks, and NBRecv and NBWait if not; Recv and NBRecv name a reply
+/// object. Over an endpoint the reply object's present user is cancelled; then the pending word of
+/// the thread's notification is heard, or else the message of the first sender is taken. If there
+/// is neither, the thread waits among the receivers, with the reply object, if it blocks, and
+/// otherwise the answer is Empty; the reply object's user is cancelled all the same (own). Over a
+/// notification its pending word is heard, or else the thread waits on it, or is answered Empty;
+/// the reply object is not looked up. The refusals are 1 to 3 of the lookups, 4 for a capability of
+/// another kind, 5 if Read is missing, and 9 if the notification is bound to another thread; they
+/// change nothing (manual: Message Passing; Notifications).
 pub fn receive<W: Waiting>(
     state: &mut State<W>,
     core: CoreId,
@@ -207,8 +207,8 @@ pub fn receive<W: Waiting>(
     }
 }
 
-/// Performs ReplyRecv: the reply object is paid, and then the thread receives with it, as by Recv,
-/// or waits on a notification. All tests come first, that of the reply object also over a
+/// Performs ReplyRecv: replies over the reply object, and then receives with it, as by Recv, or
+/// waits on a notification. All checks come first, that of the reply object also for a
 /// notification: the refusals are those of Recv, and change nothing (manual: Message Passing;
 /// Notifications).
 pub fn reply_receive<W: Waiting>(

@@ -1,4 +1,4 @@
-//! Callers that are answered.
+//! Replies to callers.
 ghost use Rattle.mcs_book.specs.Taking.{pay as paid};
 ghost use Rattle.mcs_state.specs.Now.{so_far};
 ghost use Rattle.mcs_state.specs.Doing.{Makes, HasRoomFor};
@@ -8,8 +8,7 @@ use mcs_state::{State, give_back};
 use mcs_types::{Copies, Mode, ObjId};
 
 /// Answers the caller that a reply object owes, if it owes one: the caller runs again. A reply
-/// object that tops a chain of calls returns the context of that chain (manual: Message Passing;
-/// own).
+/// object on top of a chain returns the context of that chain (manual: Message Passing; own).
 pub fn pay<W: Waiting>(state: &mut State<W>, reply: ObjId, message: Copies<'_>)
     requires { HasRoomFor (paid reply message) state.old }
     ensures { Makes (paid reply message.entry) state.old state.new }

@@ -21,7 +21,7 @@ use mcs_object_queues::Waiting;
 use mcs_state::{State, wake};
 use mcs_types::{BOOK_LINES, Badge, Cap, Copies, CoreId, Mode, ObjId, Queue, Refusal, SendMode};
 
-/// How a call over a capability is sent: without Grant and GrantReply it cannot be answered
+/// Returns how a call over a capability is sent: without Grant and GrantReply it can get no reply
 /// (manual: Message Passing).
 fn call_mode(cap: &Cap) -> SendMode
     ensures { result ≡ call_mode cap.now }
@@ -33,7 +33,8 @@ fn call_mode(cap: &Cap) -> SendMode
     }
 }
 
-/// Whether a thread waits when its message is taken at once: a caller waits for its answer.
+/// Returns whether a thread blocks even if its message is taken at once: a caller waits for the
+/// reply.
 fn waits(mode: SendMode) -> bool
     ensures { said result ≡ answer_to mode }
 {
@@ -43,7 +44,7 @@ fn waits(mode: SendMode) -> bool
     }
 }
 
-/// Sends a message, and waits in the queue, where nobody receives.
+/// Sends a message, and queues the thread, as no thread receives.
 fn send_alone<W: Waiting>(
     state: &mut State<W>,
     thread: ObjId,
@@ -64,7 +65,7 @@ fn send_alone<W: Waiting>(
     true
 }
 
-/// Hands a message that is just sent to the first receiver.
+/// Hands a message that is being sent to the first receiver.
 fn send_to<W: Waiting>(
     state: &mut State<W>,
     thread: ObjId,
@@ -92,7 +93,7 @@ fn send_to<W: Waiting>(
     waits(mode)
 }
 
-/// Sends to an endpoint with a badge, or calls: the first receiver takes the message. Where nobody
+/// Sends to an endpoint with a badge, or calls: the first receiver takes the message. If no thread
 /// receives, the thread waits if it blocks, and otherwise the message is dropped.
 fn send_over<W: Waiting>(
     state: &mut State<W>,
@@ -118,7 +119,7 @@ fn send_over<W: Waiting>(
     }
 }
 
-/// Pays a reply object: the caller that it owes is answered, if it owes one.
+/// Replies to the caller that a reply object owes, if any.
 fn send_reply<W: Waiting>(state: &mut State<W>, reply: ObjId, message: Copies<'_>) -> bool
     requires { FitsAct (pay_act reply message) state.old }
     ensures { Acts (pay_act reply message.entry) state.old (said result)
@@ -166,13 +167,13 @@ pub fn send_target<W: Waiting>(
     }
 }
 
-/// Performs Send where it blocks, and NBSend where not. Over an endpoint the first receiver takes
-/// the message; where nobody receives, the thread waits among the senders if it blocks, and
-/// otherwise the message is dropped, with no record and the same answer. Over a notification the
-/// message is left out, and the notification is signalled with the badge of the capability; over a
-/// reply object the caller that it owes is answered, if it owes one. The refusals are 1 to 3 of the
-/// lookup, 4 for a capability of another kind, and 5 where one to an endpoint or a notification
-/// lacks Write; they change nothing (manual: Message Passing; Notifications).
+/// Performs Send if it blocks, and NBSend if not. Over an endpoint the first receiver takes the
+/// message; if no thread receives, the thread waits among the senders if it blocks, and otherwise
+/// the message is dropped, with no record and the same answer. Over a notification the message is
+/// left out, and the notification is signalled with the badge of the capability; over a reply
+/// object the caller that it owes is answered, if it owes one. The refusals are 1 to 3 of the
+/// lookup, 4 for a capability of another kind, and 5 if one to an endpoint or a notification lacks
+/// Write; they change nothing (manual: Message Passing; Notifications).
 pub fn send<W: Waiting>(
     state: &mut State<W>,
     core: CoreId,
@@ -199,8 +200,8 @@ pub fn send<W: Waiting>(
 /// the thread an answer, or else the thread waits among the senders. A call that cannot be
 /// answered, since Grant and GrantReply are missing or the receiver names no reply object, leaves
 /// the thread inactive once it is taken. A receiver that holds no context is lent the thread's
-/// (own). The refusals are 1 to 3 of the lookup, 4 for a capability of another kind, and 5 where
-/// Write is missing; they change nothing (manual: Message Passing).
+/// (own). The refusals are 1 to 3 of the lookup, 4 for a capability of another kind, and 5 if Write
+/// is missing; they change nothing (manual: Message Passing).
 pub fn call<W: Waiting>(
     state: &mut State<W>,
     core: CoreId,

@@ -1,4 +1,4 @@
-//! Messages that are taken, and callers that come to be owed an answer.
+//! Takes messages, and makes reply objects owe callers.
 ghost use Rattle.std.specs.Prelude.{◌≡◌, true, IfSome, Some};
 ghost use Rattle.mcs_types.specs.declared.id.Kind.{Kind};
 ghost use Rattle.mcs_types.specs.declared.record.Queue.{Queue};
@@ -24,7 +24,7 @@ pub struct Delivery {
     pub mode: SendMode,
 }
 
-/// The context that a caller brings along: its own, where the receiver holds none (own).
+/// Returns the context that a caller lends: its own, if the receiver holds none (own).
 fn context_to_lend<W: Waiting>(state: &State<W>, caller: ObjId, receiver: ObjId) -> Option<ObjId>
     ensures { result ≡ lent (so_far state.now) caller receiver }
 {
@@ -34,8 +34,8 @@ fn context_to_lend<W: Waiting>(state: &State<W>, caller: ObjId, receiver: ObjId)
     }
 }
 
-/// Makes a reply object owe a caller an answer, which the receiver is to give. A receiver that
-/// holds no context is lent the caller's (own).
+/// Makes a reply object owe a caller a reply, which the receiver has to give. A receiver that holds
+/// no context is lent the caller's (own).
 fn owe<W: Waiting>(state: &mut State<W>, reply: ObjId, caller: ObjId, receiver: ObjId)
     requires calling { IsCalling (so_far state.old) reply caller receiver }
     requires room { HasRoomFor (owed_by reply caller receiver) state.old }
@@ -50,7 +50,7 @@ fn owe<W: Waiting>(state: &mut State<W>, reply: ObjId, caller: ObjId, receiver: 
     }
 }
 
-/// Passes the context of a sender to the receiver, where that holds none (own).
+/// Passes the context of a sender to the receiver, if that holds none (own).
 fn give<W: Waiting>(state: &mut State<W>, sender: ObjId, receiver: ObjId)
     requires receiver { IsThere (so_far state.old) Kind.Thread receiver }
     requires room { HasRoomFor (given_by sender receiver) state.old }
@@ -60,10 +60,10 @@ fn give<W: Waiting>(state: &mut State<W>, sender: ObjId, receiver: ObjId)
     give_back(state, own, receiver);
 }
 
-/// Completes a send whose message is taken. A caller is owed an answer, or becomes inactive where
-/// nobody can answer it. After a plain send a sender that was queued runs again. A sender that
-/// gives its context parts with it (manual: Message Passing; own).
-// a part of its callers, which know whether the sender was in a queue
+/// Completes a send whose message was taken. A caller is owed a reply, or becomes Inactive if no
+/// thread can give one. After a plain send a queued sender runs again. A sender of mode `Give`
+/// passes its context (manual: Message Passing; own).
+// inlined: callers know whether the sender was in a queue
 #[inline(always)]
 pub fn settle<W: Waiting>(
     state: &mut State<W>,
@@ -91,9 +91,9 @@ pub fn settle<W: Waiting>(
     }
 }
 
-/// Takes the open message of the first sender for a thread that receives with a reply object, or
-/// without one. Returns an equal message.
-// a part of its caller, so that the message is moved once less
+/// Takes the open message of the first sender for a thread that receives, with a reply object or
+/// without. Returns an equal message.
+// inlined, so that the message is moved once less
 #[inline(always)]
 pub fn take<W: Waiting>(
     state: &mut State<W>,

@@ -1,4 +1,4 @@
--- What is known of an entry that is let in, and of the book after it.
+-- What is known of an accepted entry, and of the book after it.
 use Rattle.std.specs.Prelude.{◌≡◌, ◌≢◌, ◌<◌, ◌≤◌, ◌+◌, ◌∷◌, ◌++◌, ◌&&◌, Bool, true, false, cond, List, [], length, reverse, Option, Some, None, option_and_then}
 use Rattle.std.proofs.Common.{refl, ap, sym, subst, ◌∙◌, arith}
 use Rattle.std.proofs.lemmas.Grind.{common_steps}
@@ -99,7 +99,7 @@ so_far-book n b empty is = ap (λ h. h ++ log_of n.book) empty ∙ ap (λ (c : B
 pub hand-records : (recs : List Rec) (hand : Log) → hand ≡ [] → reverse (onto recs hand) ≡ recs
 hand-records recs hand empty = ap (λ h. reverse (onto recs h)) empty ∙ ap (λ h. reverse h) (onto-reverse recs [] ∙ append-nil (reverse recs)) ∙ reverse-reverse recs
 
--- the book with the line of an entry that is let in is legal
+-- the book with the line of an entry that is accepted is legal
 pub legal-entered : (b : Book) (s : Step) → IsLegal b → may_enter (log_of b) s.core s.thread ≡ true → InRange s.entry → IsLegal (entered b s)
 legal-entered b s legal may range = record {
   boot = legal.boot;
@@ -131,7 +131,7 @@ module _ (b : Book) (s : Step) (n m : Now) (a : Answer) (empty : n.hand ≡ []) 
       let book : m.book ≡ b = ap (λ (k : Now). k.book) did.records ∙ is in
       ap (λ x. make x told (reverse m.hand)) book ∙ ap (λ y. make b y (reverse m.hand)) (same_told ∙ answer-entered) ∙ ap (λ rs. make b ((does (log_of b) s.core s.thread s.entry).answer) rs) recs
 
--- a kernel at rest made room for the line of a thread t that is let in on a core; b is its book
+-- a kernel at rest made room for the line of a thread t that is accepted on a core; b is its book
 pub record IsServing (b : Book) (core : CoreId) (t : ObjId) (n : Now) : Type 0 where
   pub hand : n.hand ≡ []
   pub book : n.book ≡ b
@@ -139,7 +139,7 @@ pub record IsServing (b : Book) (core : CoreId) (t : ObjId) (n : Now) : Type 0 w
   pub may : may_enter (log_of b) core t ≡ true
   pub few : length b.lines + 1 < line_limit
 
--- so it is where there is no fault
+-- so it is if there is no fault
 pub serving : (b : Book) (core : CoreId) (t : ObjId) (n m : Now) → IsResting n → n.book ≡ b → fault_of b core t ≡ None → m.hand ≡ n.hand → m.book ≡ n.book → IsServing b core t m
 serving b core t n m rests is none hand book =
     let f = fault-none b core t none in

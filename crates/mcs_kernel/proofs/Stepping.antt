@@ -51,7 +51,7 @@ stepped b s v = elim v [ true ↦ entered b s | false ↦ b ]
 abbrev answered : Book → Step → Bool → Option Answer
 answered b s v = elim v [ true ↦ Some ((does (log_of b) s.core s.thread s.entry).answer) | false ↦ None ]
 
--- a step that is let in
+-- a step that is accepted
 pub step-taken : (b : Book) (s : Step) → fault_of b s.core s.thread ≡ None → with_step b s ≡ entered b s
 step-taken b s none = ap (λ v. stepped b s v) ((fault-none b s.core s.thread none).0)
 

@@ -20,7 +20,7 @@ use Rattle.mcs_kernel.specs.declared.fault.EnterFault.TheVariants.{NotRunning, N
 abbrev pub has_room : Book → Bool
 has_room b = nat_lt (length b.lines + 1) line_limit
 
--- what is wrong with the context that a thread holds
+-- the fault of the context that a thread holds
 abbrev pub context_fault : Book → CoreId → Option ObjId → Option EnterFault
 context_fault b core None = Some NoContext
 context_fault b core (Some s) = cond (is_on_core core (form_of (log_of b) s)) (cond (has_room b) None (Some BookFull)) (Some WrongCore)
@@ -30,7 +30,7 @@ context_fault b core (Some s) = cond (is_on_core core (form_of (log_of b) s)) (c
 unfoldable pub fault_of : Book → CoreId → ObjId → Option EnterFault
 fault_of b core t = cond (is_ready (status_of (log_of b) t)) (context_fault b core (context_of (log_of b) t)) (Some NotRunning)
 
--- the book with the line of a step that is let in
+-- the book with the line of a step that is accepted
 abbrev pub entered : Book → Step → Book
 entered b s = record b { lines = line_for s (does (log_of b) s.core s.thread s.entry) ∷ b.lines }
 

@@ -1,4 +1,4 @@
--- Runs of steps: where the book is full for one that would be let in.
+-- Runs of steps: where the book is full for one that would be accepted.
 use Rattle.std.specs.Prelude.{ℕ, ◌≡◌, ◌<◌, ◌≤◌, ◌+◌, ◌-◌, ◌^◌, min, Bool, true, false, cond, Option, Some, None, List, [], ◌∷◌}
 use Rattle.std.specs.Option.{IfSome}
 use Rattle.mcs_types.specs.declared.entry.Step.{Step}
@@ -40,7 +40,7 @@ abbrev pub is_book_full : Option EnterFault → Bool
 is_book_full (Some BookFull) = true
 is_book_full _ = false
 
--- the number of the first of these steps that would be let in and for which the book is full; n
+-- the number of the first of these steps that would be accepted and for which the book is full; n
 -- were taken before
 abbrev pub full_after : ℕ → Book → List Step → Option ℕ
 full_after n b [] = None
@@ -50,9 +50,9 @@ full_after n b (s ∷ ss) = cond (is_book_full (fault_of b s.core s.thread)) (So
 abbrev pub full_in : Boot → List Step → Option ℕ
 full_in boot ss = full_after 0 (record { boot = boot; lines = [] }) ss
 
--- a fault of a replay of so many steps, whose first step with a full book has this number: BookFull
--- comes at that step alone, and OutOfMemory at one of the steps before it, or at the boot, which
--- has the number 0
+-- a fault of a replay of this many steps, whose first step with a full book has this number:
+-- BookFull comes at that step alone, and OutOfMemory at one of the steps before it, or at the boot,
+-- which has the number 0
 abbrev pub EndsAt : ℕ → Option ℕ → ReplayFault → Type 0
 EndsAt count full (ended.BookFull n) = full ≡ Some n
 EndsAt count full (ended.OutOfMemory n) = (n ≤ count) × IfSome full (λ m. n < m)

@@ -1,7 +1,7 @@
 //! Why an entry is skipped, and why a replay ends.
 use thiserror::Error;
 
-/// Why an entry was skipped: the numbers 1 to 5, tested in this order. The kernel is as it was.
+/// Why an entry was skipped: the numbers 1 to 5, tested in this order. The kernel is unchanged.
 #[derive(Clone, Copy, PartialEq, Eq, Debug, Error)]
 pub enum EnterFault {
     /// The thread is unknown, closed, or neither running nor in restart.
@@ -21,11 +21,11 @@ pub enum EnterFault {
     OutOfMemory = 5,
 }
 
-/// Why a replay ended: the numbers 1 and 2, with the number of the step from 1 (0 for the boot).
-/// Nothing is handed back.
+/// Why a replay ended: the numbers 1 and 2, with the number of the step, counted from 1 (0 for the
+/// boot). The kernel is dropped.
 #[derive(Clone, Copy, PartialEq, Eq, Debug, Error)]
 pub enum ReplayFault {
-    /// The first step that was let in for which the book is full.
+    /// The first accepted step for which the book is full.
     #[error("the book is full at step {step}")]
     BookFull { step: usize },
     /// A growth was refused.

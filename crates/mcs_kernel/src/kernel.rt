@@ -36,7 +36,7 @@ use mcs_types::{
 use std::alloc::Global;
 use std::marker::Model;
 
-/// The kernel. Clauses see its book.
+/// The kernel: a book, and the tables that cache it. Clauses see the book.
 #[derive(Drop)]
 pub struct Kernel<L: Lines> {
     state: State<ObjectQueues<L>>,
@@ -53,7 +53,7 @@ impl<L: Lines> Model for Kernel<L> {
     ghost invariant = { λ k. IsResting k.state };
 }
 
-// An answer is Done before its entry, so that an entry which is done writes none.
+// The answer is Done before the entry, so that an entry which is done writes none.
 
 /// Writes the answer of an entry that is done or refused.
 #[inline(always)]
@@ -80,10 +80,10 @@ fn answer_send(answer: &mut Answer, waits: Result<bool, Refusal>)
     }
 }
 
-// An entry that sends a message is a function of its own, so that what is lent with it is cleared
-// where it is lent alone.
+// An entry that sends a message is a separate function, so that only it clears memory for what it
+// lends.
 
-/// Performs Send and NBSend, with the copies of their message that take memory.
+/// Performs Send and NBSend, with the copies of a long message.
 #[inline(always)]
 fn do_send<W: Waiting>(
     state: &mut State<W>,
@@ -108,7 +108,7 @@ fn do_send<W: Waiting>(
     answer_send(answer, send(state, core, thread, cap, copies, blocks))
 }
 
-/// Performs Call, likewise.
+/// Performs Call, with the copies of a long message.
 #[inline(always)]
 fn do_call<W: Waiting>(
     state: &mut State<W>,
@@ -131,7 +131,7 @@ fn do_call<W: Waiting>(
     answer_send(answer, call(state, core, thread, cap, copies))
 }
 
-/// Performs ReplyRecv, likewise.
+/// Performs ReplyRecv, with the copies of a long message.
 #[inline]
 fn do_reply_receive<W: Waiting>(
     state: &mut State<W>,
@@ -154,7 +154,8 @@ fn do_reply_receive<W: Waiting>(
     reply_receive(state, core, thread, cap, reply, copies, answer)
 }
 
-/// Performs NBSendRecv where a reply object is named, and NBSendWait where not, likewise.
+/// Performs NBSendRecv if a reply object is named, and NBSendWait if not, with the copies of a long
+/// message.
 fn do_exchange<W: Waiting>(
     state: &mut State<W>,
     core: CoreId,
@@ -179,8 +180,8 @@ fn do_exchange<W: Waiting>(
     exchange(state, core, thread, cap, source, reply, copies, answer)
 }
 
-/// Does an entry of a thread that may enter: a table, with an arm for each entry. The copies of its
-/// message that take memory are made before, so it takes none.
+/// Performs an entry of a thread that may enter: a table, with an arm for each entry. The copies of
+/// a long message were made before, so it allocates nothing.
 #[inline(always)]
 fn operate<W: Waiting>(
     state: &mut State<W>,
@@ -336,8 +337,8 @@ fn operate<W: Waiting>(
 }
 
 impl<L: Lines> Kernel<L> {
-    /// A kernel whose book has line 0 alone: the boot with the records of its lines. It makes the
-    /// room of all tables.
+    /// Returns a kernel whose book has only line 0: the boot with the records of its lines. It
+    /// allocates all tables.
     pub fn new(alloc: Global, boot: &Boot) -> Result<Kernel<L>, OutOfMemory>
         ensures { IfOk result (λ k. k ≡ record { boot = boot.now; lines = [] }) }
     {
@@ -345,8 +346,8 @@ impl<L: Lines> Kernel<L> {
         Ok(Kernel { state })
     }
 
-    /// The same where the boot ends: its tables are dropped before those of the kernel are made, so
-    /// that the memory of one kernel is enough.
+    /// Returns a kernel after a boot, whose tables are dropped first, so that the memory of one
+    /// kernel is enough.
     pub(crate) fn after(alloc: Global, boot: Boot) -> Result<Kernel<L>, OutOfMemory>
         ensures { IfOk result (λ k. k ≡ record { boot = boot; lines = [] }) }
     {
@@ -355,7 +356,7 @@ impl<L: Lines> Kernel<L> {
         Ok(Kernel { state })
     }
 
-    /// Clones the kernel in the memory of a spare one. OutOfMemory where memory is refused.
+    /// Clones the kernel in the memory of a spare one. `OutOfMemory` if an allocation fails.
     pub fn copy(&self, alloc: Global, spare: Option<Kernel<L>>) -> Result<Kernel<L>, OutOfMemory>
         ensures { IfOk result (λ k. k ≡ self.now) }
     {
@@ -367,7 +368,7 @@ impl<L: Lines> Kernel<L> {
         Ok(Kernel { state })
     }
 
-    /// The book of all entries that were let in. It is legal and fair, and has at most 1,000,000
+    /// Returns the book of all accepted entries. It is legal and fair, and has at most 1,000,000
     /// lines.
     pub fn book(&self) -> &Book
         ensures lent { result.now.book ≡ self.now }
@@ -387,7 +388,7 @@ impl<L: Lines> Kernel<L> {
         let _ = &self.state;
     }
 
-    /// Why an entry of a thread on a core would be skipped now, memory aside.
+    /// Returns why an entry of a thread on a core would be skipped now, allocations aside.
     #[inline(always)]
     #[tactic(auto, unfolding(crate::specs::Faults::fault_of))]
     pub fn fault(&self, core: CoreId, thread: ObjId) -> Option<EnterFault>
@@ -411,9 +412,9 @@ impl<L: Lines> Kernel<L> {
         }
     }
 
-    /// Does a step that is let in: its line is added. OutOfMemory where the room for it, or a copy
-    /// of its message, is refused; all memory is taken before the first change.
-    // a part of `admit`, so that the answer of 72 bytes is moved once less
+    /// Performs an accepted step, and adds its line. `OutOfMemory` if the allocation of the line or
+    /// of a copy of its message fails; all memory is allocated before the first change.
+    // inlined into `admit`, so that the answer of 72 bytes is moved once less
     #[inline(always)]
     fn serve(&mut self, alloc: Global, step: &Step) -> Result<Answer, OutOfMemory>
         requires let_in { fault_of self.old step.now.core step.now.thread ≡ None }
@@ -440,11 +441,10 @@ impl<L: Lines> Kernel<L> {
         Ok(answer)
     }
 
-    /// Lets in the entry of a step, and adds its line to the book, also where the answer is a
-    /// refusal; or turns it away for the first of EnterFault's reasons, and then nothing has
-    /// changed. OutOfMemory comes only where the others do not. The thread need not be the one of
-    /// greatest priority.
-    // the answer of 72 bytes is not moved where this is a part of its caller
+    /// Performs the entry of a step and adds its line to the book, even if the answer is a refusal;
+    /// or skips it for the first of EnterFault's reasons, and changes nothing. OutOfMemory is the
+    /// last of these. The thread need not be the one of greatest priority.
+    // inlined, so that the answer of 72 bytes is not moved
     #[inline(always)]
     pub fn admit(&mut self, alloc: Global, step: &Step) -> Result<Answer, EnterFault>
         ensures turned { IfSome (fault_of self.old step.now.core step.now.thread)
@@ -470,7 +470,7 @@ impl<L: Lines> Kernel<L> {
         result
     }
 
-    /// Lets in an entry of a thread on a core, or turns it away, as `admit` does.
+    /// Performs or skips an entry of a thread on a core, as `admit` does.
     pub fn enter(
         &mut self,
         alloc: Global,

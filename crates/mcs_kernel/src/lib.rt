@@ -1,4 +1,4 @@
-//! The kernel: one entry that is let in is one line of the book.
+//! The kernel: each accepted entry is one line of the book.
 #![tactic(auto)]
 
 mod fault;

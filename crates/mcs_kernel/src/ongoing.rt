@@ -1,4 +1,4 @@
-//! A replay that goes on, step by step.
+//! A replay, step by step.
 ghost use Rattle.std.specs.Prelude.{◌≡◌, false, IfOk, OnOk, IfErr, OnErr};
 ghost use Rattle.mcs_book.specs.History.{IsLegal};
 ghost use Rattle.mcs_book.specs.Fair.{IsFair};
@@ -13,8 +13,7 @@ use mcs_types::{Answer, OutOfMemory, Step};
 use std::alloc::Global;
 use std::marker::Model;
 
-/// A replay that goes on: a kernel, and how many steps it took. Clauses see its book and that
-/// count.
+/// A replay in progress: a kernel, and how many steps it took. Clauses see its book and that count.
 #[derive(Drop)]
 pub struct Replay<L: Lines> {
     kernel: Kernel<L>,
@@ -30,8 +29,8 @@ impl<L: Lines> Model for Replay<L> {
 }
 
 impl<L: Lines> Replay<L> {
-    /// A replay on a kernel with this boot, before the first step. OutOfMemory where the room of
-    /// its tables is refused.
+    /// Returns a replay on a kernel with this boot, before the first step. `OutOfMemory` if the
+    /// allocation of its tables fails.
     pub fn new(alloc: Global, boot: Boot) -> Result<Replay<L>, OutOfMemory>
         ensures { IfOk result (λ r. r ≡ begun boot) }
     {
@@ -39,11 +38,11 @@ impl<L: Lines> Replay<L> {
         Ok(Replay { kernel, taken: 0 })
     }
 
-    /// Takes the next step and gives its answer, or None where it is skipped, and then the book
-    /// stays as it is. Either way the step is counted, up to usize::MAX. BookFull comes exactly at
-    /// a step that would be let in and for which the book is full, and OutOfMemory where the room
-    /// for its line is refused, each with the number of the step, from 1. After a fault nothing has
-    /// changed, and the same step may be retried.
+    /// Performs the next step and returns its answer, or None if it is skipped and the book stays
+    /// as it is. Either way the step is counted, up to `usize::MAX`. BookFull comes exactly at a
+    /// step that would be accepted and for which the book is full, and `OutOfMemory` if an
+    /// allocation for its line fails, each with the number of the step, counted from 1. After a
+    /// fault nothing has changed, and the step may be retried.
     pub fn advance(&mut self, alloc: Global, step: &Step) -> Result<Option<Answer>, ReplayFault>
         ensures room { OnOk result
             (is_book_full (fault_of self.old.book step.now.core step.now.thread) ≡ false) }
@@ -68,7 +67,7 @@ impl<L: Lines> Replay<L> {
         Ok(answer)
     }
 
-    /// Takes the next step, as `advance` does.
+    /// Performs the next step, as `advance` does.
     pub fn step(&mut self, alloc: Global, step: Step) -> Result<Option<Answer>, ReplayFault>
         ensures room { OnOk result
             (is_book_full (fault_of self.old.book step.core step.thread) ≡ false) }
@@ -83,14 +82,14 @@ impl<L: Lines> Replay<L> {
         self.advance(alloc, &step)
     }
 
-    /// The kernel after the steps so far.
+    /// Returns the kernel after the steps so far.
     pub fn kernel(&self) -> &Kernel<L>
         ensures { result.now ≡ self.now.book }
     {
         &self.kernel
     }
 
-    /// The kernel, with which the replay ends.
+    /// Returns the kernel, and ends the replay.
     pub fn into_kernel(self) -> Kernel<L>
         ensures { result ≡ self.book }
     {

@@ -1,4 +1,4 @@
-//! A whole run of steps.
+//! A replay of a whole list of steps.
 ghost use Rattle.std.specs.Prelude.{◌≡◌, length, IfOk, OnOk, IfErr, None};
 ghost use Rattle.mcs_book.specs.History.{IsLegal, book_of};
 ghost use Rattle.mcs_book.specs.Each.{EachRecord, EachLine, AfterEachLine};
@@ -13,9 +13,9 @@ use mcs_queues::Lines;
 use mcs_types::{OutOfMemory, Step};
 use std::alloc::Global;
 
-/// Takes the steps one after another on a kernel with this boot: steps that are skipped leave no
-/// line. BookFull comes exactly at the first step that would be let in and for which the book is
-/// full, unless memory was refused before.
+/// Replays steps on a kernel with this boot; skipped steps leave no line. BookFull comes exactly at
+/// the first step that would be accepted and for which the book is full, unless an allocation
+/// failed before.
 pub fn replay<L: Lines>(alloc: Global, boot: Boot, steps: &[Step]) -> Result<Kernel<L>, ReplayFault>
     ensures book { IfOk result (λ k. k ≡ book_of boot steps.now) }
     ensures room { OnOk result (full_in boot steps.now ≡ None) }

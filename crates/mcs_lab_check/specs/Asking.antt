@@ -82,7 +82,7 @@ named_question None None ws = None
 named_question None (Some o) [] = None
 named_question None (Some o) (w ∷ ws) = object_question o.kind o w ws
 
--- a question about the state, where there is one
+-- a question about the state, if there is one
 abbrev pub state_asked : Option Question → Option Asked
 state_asked None = None
 state_asked (Some q) = Some (asked.State q)

@@ -12,7 +12,8 @@ use Rattle.mcs_lab_check.specs.declared.last.Last.TheVariants.{NoStep, Away, Let
 use Rattle.mcs_lab_check.specs.declared.last.Told.{Told}
 use Rattle.mcs_lab_check.specs.declared.last.Told.TheVariants as told
 
--- a script that is checked: its replay, whether its last step was let in, and the text of that step
+-- a script that is checked: its replay, whether its last step was accepted, and the text of that
+-- step
 pub record Checked : Type 0 where
   pub run : Going
   pub last : Last
@@ -26,27 +27,27 @@ book_of c = c.run.course.stands.book
 abbrev pub unread : Checked
 unread = record { run = at_line no_line; last = NoStep; step = [] }
 
--- the last step was let in where the book has more lines than before
+-- the last step was accepted where the book has more lines than before
 abbrev pub last_of : Option Book → Option Book → Last
 last_of before after = cond (line_count after == line_count before) Away (LetIn 0 (sent_count before))
 
--- what comes of a line that is no remark, before which the book was this one; while the boot goes
--- on it is no step
+-- the verdict of a line that is no remark, before which the book was this one; while the boot
+-- continues it is no step
 abbrev pub stepped : Option Book → Option Book → Checked → List ℕ → Told × Checked
 stepped before None c text = (told.Nothing, c)
 stepped before (Some b) c text = (told.Step, record c { last = last_of before (Some b); step = text })
 
--- what comes of a line of a record: what is before the one that is found is passed
+-- the verdict of a line of a record: what is before the record that is found is passed over
 abbrev pub with_found : Option (ℕ × ℕ) → Checked → Told × Checked
 with_found None c = (told.Record false, c)
 with_found (Some at) c = (told.Record true, record c { last = LetIn at.0 at.1 })
 
--- whether what is asked is so
+-- whether the answer to a question is yes
 abbrev pub is_so : Checked → List ℕ → Asked → Bool
 is_so c text (asked.Away why) = was_away c.last (reason (book_of c) c.step) why text
 is_so c text (asked.State q) = says_so (book_of c) q text
 
--- what comes of a question
+-- the verdict of a question
 abbrev pub answered : Checked → List ℕ → Option Asked → Told
 answered c text None = told.NoQuestion
 answered c text (Some a) = told.Asked (is_so c text a)
@@ -58,13 +59,13 @@ question_text (a ∷ b ∷ []) = None
 question_text (a ∷ []) = None
 question_text [] = None
 
--- what comes of a remark
+-- the verdict of a remark
 abbrev pub remarked : Checked → Option (List ℕ) → Told
 remarked c None = told.Nothing
 remarked c (Some text) = answered c text (asked_of text)
 
--- what comes of a line by its first byte, where the replay has taken it, and before it the book was
--- this one
+-- the verdict of a line by its first byte, where the replay has taken it, and before it the book
+-- was this one
 abbrev pub judged_by : Option Book → Checked → ℕ → List ℕ → Told × Checked
 judged_by before c b text =
     cond (b == 61) (told.Answer (answers_so c.last (newest (book_of c)) text), c)
@@ -77,7 +78,7 @@ judged_by before c b text =
 abbrev pub fed_line : Checked → List ℕ → Checked
 fed_line c text = record c { run = fed c.run text }
 
--- what comes of a line, which ends in a newline: the verdict, and the script after it
+-- the verdict of a line, which ends in a newline, and the script after it
 abbrev pub judged : Checked → List ℕ → Told × Checked
 judged c [] = (told.Nothing, fed_line c [])
 judged c (b ∷ bs) = judged_by (book_of c) (fed_line c (b ∷ bs)) b (b ∷ bs)

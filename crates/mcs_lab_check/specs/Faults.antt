@@ -1,4 +1,4 @@
--- How a fault ends the program, and what is told of the line that has it.
+-- How a fault ends the program, and what is reported about the line that has it.
 use Rattle.std.specs.Prelude.{Option, Some, None}
 use Rattle.mcs_lab_check.specs.declared.flaw.Flaw.{Flaw}
 use Rattle.mcs_lab_check.specs.declared.outcome.Outcome.{Outcome}

@@ -1,4 +1,4 @@
--- What is wrong with a line, and no eye sees.
+-- Faults of a line that are not visible.
 use Rattle.std.specs.Prelude.{ℕ, Bool, cond, List, [], ◌∷◌, Option, Some, None, nat_eq}
 use Rattle.std.specs.List.{starts_with, ends_with}
 use Rattle.mcs_lab_check.specs.declared.flaw.Flaw.{Flaw}
@@ -12,6 +12,6 @@ has_mark line = starts_with nat_eq line (0xEF ∷ 0xBB ∷ 0xBF ∷ [])
 abbrev pub has_return : List ℕ → Bool
 has_return line = ends_with nat_eq line (13 ∷ 10 ∷ [])
 
--- what is wrong with a line
+-- the fault of a line
 abbrev pub flaw_of : List ℕ → Option Flaw
 flaw_of line = cond (has_mark line) (Some ByteOrderMark) (cond (has_return line) (Some CarriageReturn) None)

@@ -43,7 +43,7 @@ answers_so NoStep l text = false
 answers_so Away l text = false
 answers_so (LetIn next sent) l text = is_answer l text
 
--- the place after the first record that is written so, of those from a number on, before which so
+-- the place after the first record that is written so, of those from a number on, before which this
 -- many messages were sent, and how many were sent before that place
 abbrev pub found_from : ℕ → ℕ → List Rec → List ℕ → Option (ℕ × ℕ)
 found_from next sent [] text = None

@@ -8,7 +8,7 @@ use mcs_kernel::EnterFault;
 use mcs_text::Words;
 use mcs_types::{Kind, ObjId, Queue};
 
-/// What is asked, by the words with which it begins. What is wanted of it is the whole text.
+/// What a question asks about, by its first words. The expected answer is its whole text.
 #[derive(Clone, Copy)]
 pub enum Question {
     /// `t1 waits e1.send`, `t1 owed r1`, `t1 running`, `restart`, `inactive`, `closed`.
@@ -42,16 +42,16 @@ pub enum Question {
     Slot { cnode: ObjId, index: u8 },
 }
 
-/// What a line asks.
+/// What a line `#?` asks.
 #[derive(Clone, Copy)]
 pub enum Asked {
-    /// `away`, or `away NoContext`: whether the step before was skipped, and for what reason.
+    /// `away`, or `away NoContext`: whether the step before was skipped, and for this reason.
     Away { why: Option<EnterFault> },
-    /// What follows the step.
+    /// A question about the state after the step.
     State { question: Question },
 }
 
-/// Whether a word is this one.
+/// Returns whether a word is this one.
 fn is(word: &[u8], text: &[u8]) -> bool
     ensures { result ≡ bytes_eq text.now word.now }
 {
@@ -88,7 +88,7 @@ fn away_asked(words: &mut Words<'_>) -> Option<Asked>
     Some(Asked::Away { why: Some(why) })
 }
 
-/// Whether a word says what a thread does.
+/// Returns whether a word says what a thread does.
 fn is_status(word: &[u8]) -> bool
     ensures { result ≡ is_status word.now }
 {
@@ -99,7 +99,7 @@ fn is_status(word: &[u8]) -> bool
         || is(word, b"closed")
 }
 
-/// Reads the question what owes a thread an answer, with `by` in between or without.
+/// Reads the question what owes a thread a reply, with or without `by`.
 fn owed_question(thread: ObjId, words: &mut Words<'_>) -> Option<Question>
     ensures { result ≡ owed_question thread words.old }
 {
@@ -108,7 +108,7 @@ fn owed_question(thread: ObjId, words: &mut Words<'_>) -> Option<Question>
     Some(Question::Status { thread, by })
 }
 
-/// Reads what a word and those after it ask of a thread.
+/// Reads a question about a thread, from this word on.
 fn thread_question(thread: ObjId, word: &[u8], words: &mut Words<'_>) -> Option<Question>
     ensures { result ≡ thread_question thread word.now words.old }
 {
@@ -136,7 +136,7 @@ fn thread_question(thread: ObjId, word: &[u8], words: &mut Words<'_>) -> Option<
     None
 }
 
-/// What a word asks of a context.
+/// Returns the question about a context with this word.
 fn context_question(context: ObjId, word: &[u8]) -> Option<Question>
     ensures { result ≡ context_question context word.now }
 {
@@ -152,7 +152,7 @@ fn context_question(context: ObjId, word: &[u8]) -> Option<Question>
     None
 }
 
-/// What a word asks of a reply object.
+/// Returns the question about a reply object with this word.
 fn reply_question(reply: ObjId, word: &[u8]) -> Option<Question>
     ensures { result ≡ reply_question reply word.now }
 {
@@ -165,7 +165,7 @@ fn reply_question(reply: ObjId, word: &[u8]) -> Option<Question>
     None
 }
 
-/// Reads what is asked of a slot, by its index and the words after that.
+/// Reads a question about a slot, by its index and the words after it.
 fn slot_asked(cnode: ObjId, index: Option<u32>, words: &mut Words<'_>) -> Option<Question>
     ensures { result ≡ slot_asked cnode index words.old }
 {
@@ -180,7 +180,7 @@ fn slot_asked(cnode: ObjId, index: Option<u32>, words: &mut Words<'_>) -> Option
     })
 }
 
-/// Reads what a word and those after it ask of an object.
+/// Reads a question about an object, from this word on.
 fn object_question(object: ObjId, word: &[u8], words: &mut Words<'_>) -> Option<Question>
     ensures { result ≡ object_question object.kind object word.now words.old }
 {
@@ -196,7 +196,7 @@ fn object_question(object: ObjId, word: &[u8], words: &mut Words<'_>) -> Option<
     }
 }
 
-/// Reads what is asked of what a word names, by the words after it.
+/// Reads a question about the object that a word names, from the words after it.
 fn named_question(first: &[u8], words: &mut Words<'_>) -> Option<Question>
     ensures { result ≡ named_question (queue_of first.now) (object_of first.now) words.old }
 {
@@ -208,7 +208,7 @@ fn named_question(first: &[u8], words: &mut Words<'_>) -> Option<Question>
     object_question(object, word, words)
 }
 
-/// Reads what words ask.
+/// Reads what the words of a line `#?` ask.
 fn asked_by(words: &mut Words<'_>) -> Option<Asked>
     ensures { result ≡ asked_by words.old }
 {
@@ -220,7 +220,7 @@ fn asked_by(words: &mut Words<'_>) -> Option<Asked>
     Some(Asked::State { question })
 }
 
-/// What a text after `#? ` asks; None where it has no form.
+/// Returns what a text after `#? ` asks; None if it has no form of a question.
 pub fn asked_of(text: &[u8]) -> Option<Asked>
     ensures { result ≡ asked_of text.now }
 {

@@ -1,4 +1,4 @@
-//! Whether what follows each step of a script holds, written as TAP.
+//! Checks the expectations of a script, and writes the verdicts as TAP.
 use crate::fault::{LabFault, Reason};
 use crate::judging::Judge;
 use crate::last::{Last, Told};
@@ -12,7 +12,7 @@ use mcs_trace::{Line, spell_answer, spell_record};
 use std::alloc::Global;
 use std::io::{self, Read, Write};
 
-/// A script that is checked, and how many of the lines that say what is wanted hold or do not.
+/// The check of a script: a judge, a writer, and how many expectations hold and fail.
 #[derive(Drop)]
 struct Checker<W> {
     judge: Judge,
@@ -32,7 +32,7 @@ enum About {
     State,
 }
 
-/// What is on a line of a question after its sign.
+/// Returns the text of a line `#?` or `#@` after its sign.
 fn asked(line: &[u8]) -> &[u8] {
     match line {
         [b'#', b'?', b' ', rest @ ..] => rest,
@@ -40,7 +40,7 @@ fn asked(line: &[u8]) -> &[u8] {
     }
 }
 
-/// What needs memory before the first line is read.
+/// What a checker allocates before it reads the first line.
 #[derive(Drop)]
 struct Parts {
     judge: Judge,
@@ -49,7 +49,7 @@ struct Parts {
 }
 
 impl Parts {
-    /// Returns the parts of a checker that has read nothing. OutOfMemory where memory was refused.
+    /// Returns the parts of a checker that has read nothing. `OutOfMemory` if an allocation fails.
     fn new(alloc: Global) -> Result<Parts, LabFault> {
         Ok(Parts {
             judge: Judge::new(alloc)?,
@@ -59,7 +59,7 @@ impl Parts {
     }
 }
 
-/// Writes why the verdicts end here. Writes nothing where that is because of a write.
+/// Writes why the verdicts end here; nothing if a write failed.
 fn put_bail<W: Write>(to: &mut W, fault: LabFault) -> io::Result<()> {
     if fault == LabFault::Write {
         return Ok(());
@@ -69,7 +69,7 @@ fn put_bail<W: Write>(to: &mut W, fault: LabFault) -> io::Result<()> {
 }
 
 impl<W: Write + Drop> Checker<W> {
-    /// Before the first line.
+    /// Returns the checker before the first line.
     fn new(alloc: Global, parts: Parts, to: W) -> Checker<W> {
         let Parts {
             judge,
@@ -100,8 +100,8 @@ impl<W: Write + Drop> Checker<W> {
         self.verdict.put(b" - line ")?;
         self.verdict.word(&Token::Number(self.judge.line()))?;
         self.verdict.put(b": ")?;
-        // What holds is spelled as the trace spells it, and most of the rest is plain: the whole
-        // line is written at once.
+        // A line that holds is spelled as in a trace, and most others need no escape: such a line
+        // is written at once.
         if holds || is_plain(said) {
             self.verdict.put(said)?;
             self.verdict.put(b"\n")?;
@@ -114,7 +114,7 @@ impl<W: Write + Drop> Checker<W> {
         Ok(())
     }
 
-    /// Writes the answer of the last step, which was let in.
+    /// Writes the answer of the last step, which was accepted.
     fn put_answer(&mut self) -> io::Result<()> {
         let Some((line, _)) = self.judge.entered() else {
             return self.to.write_all(b" ''\n");
@@ -124,7 +124,7 @@ impl<W: Write + Drop> Checker<W> {
         put_quoted(&mut self.to, &self.names, bare(self.spelled.text()))
     }
 
-    /// Writes the records of the last step, which was let in.
+    /// Writes the records of the last step, which was accepted.
     fn put_records(&mut self) -> io::Result<()> {
         let Some((line, before)) = self.judge.entered() else {
             return self.to.write_all(b" []\n");
@@ -145,7 +145,7 @@ impl<W: Write + Drop> Checker<W> {
         Ok(())
     }
 
-    /// Writes what was seen in the place of what is wanted.
+    /// Writes what was seen instead of what was expected.
     fn put_seen(&mut self, about: About) -> io::Result<()> {
         self.to.write_all(b"  seen:")?;
         match (self.judge.last(), about) {
@@ -165,7 +165,7 @@ impl<W: Write + Drop> Checker<W> {
         }
     }
 
-    /// Writes after which step that was.
+    /// Writes after which step it was seen.
     fn put_step(&mut self) -> io::Result<()> {
         let (line, step) = self.judge.step();
         if line == 0 {
@@ -175,8 +175,7 @@ impl<W: Write + Drop> Checker<W> {
         put_quoted(&mut self.to, &self.names, bare(step))
     }
 
-    /// Tells a verdict, and of what does not hold what was wanted, what was seen, and after which
-    /// step.
+    /// Writes a verdict; if it fails, also what was expected, what was seen, and after which step.
     fn tell(&mut self, holds: bool, about: About, said: &[u8]) -> Result<(), LabFault> {
         self.put_verdict(holds, said)?;
         if holds {
@@ -190,7 +189,7 @@ impl<W: Write + Drop> Checker<W> {
         Ok(())
     }
 
-    /// Writes how many verdicts there were.
+    /// Writes how many verdicts there were, which TAP calls the plan.
     fn put_plan(&mut self) -> io::Result<()> {
         let told = self.told;
         if told == 0 {
@@ -201,7 +200,7 @@ impl<W: Write + Drop> Checker<W> {
         writeln!(self.to, "1..{told}")
     }
 
-    /// Ends the input.
+    /// Ends the input. Returns whether all expectations hold.
     fn end(&mut self, alloc: Global) -> Result<bool, LabFault> {
         self.judge.end(alloc)?;
         self.put_plan()?;
@@ -237,9 +236,9 @@ impl<W: Write + Drop> TakesLines for Checker<W> {
     }
 }
 
-/// Checks a script, and writes a verdict for each line that says what is wanted, as TAP: each
-/// before more of the input is waited for. True where all hold. Each fault but that of a write is
-/// the last line, `Bail out!`.
+/// Checks a script, and writes a verdict for each expectation, as TAP, before it waits for more
+/// input. Returns whether all hold. A fault, unless of a write, is reported as the last line, `Bail
+/// out!`.
 pub fn check<R: Read, W: Write + Drop>(
     alloc: Global,
     from: &mut Source<R>,

@@ -1,4 +1,4 @@
-//! Why the program ends early, and how it tells that.
+//! Why the program ends early, and how it reports that.
 ghost use Rattle.std.specs.Prelude.{◌≡◌};
 ghost use Rattle.mcs_lab_check.specs.Flaws.{flaw_of};
 ghost use Rattle.mcs_lab_check.specs.Outcomes.{status_of};
@@ -23,19 +23,19 @@ pub enum LabFault {
     Form {
         line: u64,
     },
-    /// A line is refused, and has a flaw that no editor shows. `why` is None where it would else be
-    /// the fault `Form`.
+    /// A line is refused, and contains bytes that no editor shows. `why` is None if the fault is
+    /// otherwise `Form`.
     Flawed {
         line: u64,
         why: Option<LineFault>,
         flaw: Flaw,
     },
-    /// The call names a line beyond the end of the script, which has so many.
+    /// The command names a line beyond the end of the script, which has this many.
     NoLine {
         line: u64,
         count: u64,
     },
-    /// The call names a line beyond the end of the book, which has so many.
+    /// The command names a line beyond the end of the book, which has this many.
     NoBookLine {
         line: u64,
         count: u64,
@@ -44,7 +44,7 @@ pub enum LabFault {
     Read,
     /// A write failed.
     Write,
-    /// The book is full at a step that would be let in.
+    /// The book is full at a step that would be accepted.
     BookFull,
     /// Memory was refused.
     OutOfMemory,
@@ -99,7 +99,7 @@ impl LabFault {
         }
     }
 
-    /// Returns the fault that a line of the script has, with the flaw of the line if it has one.
+    /// Returns the fault of a line of the script, with the line's flaw, if it has one.
     pub fn in_line(self, line: &[u8]) -> LabFault
         ensures { result ≡ seen_with (flaw_of line.now) self }
     {
@@ -140,11 +140,11 @@ impl<T: Drop> From<AllocFailed<T>> for LabFault {
     }
 }
 
-/// A fault as TAP has it: without the name of the program and the number of the fault.
+/// A fault as TAP shows it: without the name of the program and the fault's number.
 #[derive(Clone, Copy)]
 pub struct Reason(pub LabFault);
 
-/// What is said of a line of a question or of a name that has none of their forms.
+/// The message for a line `#?` or `#@` without its form.
 const NO_FORM: &str = "no question and no name has this form";
 
 impl fmt::Display for Reason {
@@ -179,7 +179,7 @@ impl fmt::Display for Reason {
     }
 }
 
-/// Writes the beginning of what is told of a line: the program, the line and the fault's number.
+/// Writes the beginning of the message about a line: the program, the line and the fault's number.
 fn put_line<W: fmt::Write>(f: &mut fmt::Formatter<W>, line: u64, why: LineFault) -> fmt::Result {
     let number = why.number();
     write!(f, "mcslab: line {line}: fault {number}: {why}")

@@ -1,4 +1,4 @@
-//! What is wrong with a line, and no eye sees.
+//! Invisible flaws of a line.
 ghost use Rattle.std.specs.Prelude.{◌≡◌};
 ghost use Rattle.mcs_lab_check.specs.Flaws.{has_mark, has_return, flaw_of};
 
@@ -27,7 +27,7 @@ fn has_return(line: &[u8]) -> bool
     line.ends_with(b"\r\n")
 }
 
-/// Returns what is wrong with a line and no eye sees: a byte order mark, or else a carriage return.
+/// Returns the invisible flaw of a line: a byte order mark, or else a carriage return.
 pub fn flaw_of(line: &[u8]) -> Option<Flaw>
     ensures { result ≡ flaw_of line.now }
 {

@@ -1,4 +1,4 @@
-//! A script line by line, and whether what it says of its steps holds.
+//! Judges the expectations of a script, line by line.
 ghost use Rattle.std.specs.Prelude.{◌≡◌, ◌+◌, ◌-◌, ◌^◌, ◌<◌, ◌≤◌, ◌++◌, ◌∷◌, [], IfOk, OnOk, IfSome, length, take, drop, option_map};
 ghost use Rattle.mcs_book.specs.History.{line_of_number};
 ghost use Rattle.mcs_phases.specs.Going.{fed};
@@ -24,7 +24,7 @@ use mcs_types::{CoreId, ObjId};
 use std::alloc::Global;
 use std::marker::Model;
 
-/// How many lines a book has after its boot.
+/// Returns how many lines a book has after its boot.
 fn count_lines(run: &ReplayRun) -> usize
     ensures { result ≡ line_count run.now.course.stands.book }
 {
@@ -34,7 +34,7 @@ fn count_lines(run: &ReplayRun) -> usize
     kernel.book().lines() - 1
 }
 
-/// How many messages were sent.
+/// Returns how many messages were sent.
 fn count_sent(run: &ReplayRun) -> u32
     ensures { result ≡ sent_count run.now.course.stands.book }
 {
@@ -52,7 +52,7 @@ fn newest(run: &ReplayRun) -> Option<Line<'_>>
     book.line(book.lines() - 1)
 }
 
-/// Compares the answer of a line with a text: true where it is written so.
+/// Compares the answer of a line with a text: true if it is spelled so.
 fn is_answer(seen: &mut Text, line: Option<Line<'_>>, text: &[u8]) -> bool
     ensures holds { result ≡ is_answer line.entry text.now }
     ensures same { seen.new ≡ seen.old }
@@ -63,7 +63,7 @@ fn is_answer(seen: &mut Text, line: Option<Line<'_>>, text: &[u8]) -> bool
     seen.is_answer(&line.kept_answer(), text)
 }
 
-/// How many messages were sent with a record more.
+/// Returns how many messages were sent after one more record.
 fn with_sent(sent: u128, fact: &KeptRecord<'_>) -> u128
     requires { sent + 1 < 2 ^ 128 }
     ensures { result ≡ sent_with sent fact.now }
@@ -71,8 +71,8 @@ fn with_sent(sent: u128, fact: &KeptRecord<'_>) -> u128
     if fact.is_sent() { sent + 1 } else { sent }
 }
 
-/// Finds the first record that is written so: returns the place after it, and how many messages
-/// were sent before that place.
+/// Finds the first record that is spelled so. Returns the index after it, and how many messages
+/// were sent before that index.
 fn found_from(
     seen: &mut Text,
     line: &Line<'_>,
@@ -99,7 +99,7 @@ fn found_from(
     None
 }
 
-/// The thread that enters and its core, on the line of a step.
+/// Returns the core and the thread at the beginning of a step's line.
 pub fn entrant_of(step: &[u8]) -> Option<(CoreId, ObjId)>
     ensures { result ≡ entrant_in (words_of step.now) }
 {
@@ -114,7 +114,7 @@ pub fn entrant_of(step: &[u8]) -> Option<(CoreId, ObjId)>
     Some((CoreId(core as u8), thread))
 }
 
-/// Puts what is said of a step that was skipped.
+/// Appends the text for a skipped step.
 fn put_away(to: &mut Text, reason: Option<EnterFault>) -> Result<(), LabFault>
     ensures { OnOk result (to.new ≡ to.old ++ away_text reason) }
 {
@@ -126,7 +126,7 @@ fn put_away(to: &mut Text, reason: Option<EnterFault>) -> Result<(), LabFault>
     }
 }
 
-/// What follows `#? ` on a line, without the newline.
+/// Returns the text after `#? ` of a line, without the newline.
 fn question_text(text: &[u8]) -> Option<&[u8]>
     ensures { option_map (λ t. t.now) result ≡ question_text text.now }
 {
@@ -136,7 +136,7 @@ fn question_text(text: &[u8]) -> Option<&[u8]>
     }
 }
 
-/// A script that is checked: its replay, its last step, and what was seen last.
+/// The judge of a script: its replay, its last step, and what was seen last.
 #[derive(Drop)]
 pub struct Judge {
     run: ReplayRun,
@@ -161,7 +161,7 @@ impl Model for Judge {
 }
 
 impl Judge {
-    /// Before the first line.
+    /// Returns the judge before the first line.
     pub fn new(alloc: Global) -> Result<Judge, LabFault>
         ensures { IfOk result (λ j. j ≡ unread) }
     {
@@ -179,7 +179,7 @@ impl Judge {
         })
     }
 
-    /// The number of the last line, from 1 on.
+    /// Returns the number of the last line, counted from 1.
     pub fn line(&self) -> u64 {
         self.lines
     }
@@ -189,24 +189,24 @@ impl Judge {
         (self.step_line, self.step.as_slice())
     }
 
-    /// Whether the last step was let in.
+    /// Returns whether the last step was accepted or skipped.
     pub fn last(&self) -> Last
         ensures { result ≡ self.now.last }
     {
         self.last
     }
 
-    /// What was seen in the place of what is wanted on the last line.
+    /// Returns what was seen instead of what the last line expects.
     pub fn seen(&self) -> &[u8] {
         self.seen.text()
     }
 
-    /// The kernel after the last line; None while the boot goes on.
+    /// Returns the kernel after the last line; None before the boot has ended.
     pub fn kernel(&self) -> Option<&Kernel<LinkedLines>> {
         self.run.kernel()
     }
 
-    /// The line of the book of the last step, where that was let in, and how many messages were
+    /// Returns the book's line of the last step, if it was accepted, and how many messages were
     /// sent before it.
     pub fn entered(&self) -> Option<(Line<'_>, u128)> {
         match self.last {
@@ -227,7 +227,7 @@ impl Judge {
         }
     }
 
-    /// Ends the input, and with it the boot, where no step came.
+    /// Ends the input, and with it the boot, if there was no step.
     pub fn end(&mut self, alloc: Global) -> Result<(), LabFault> {
         match self.run.end(alloc) {
             Ok(()) => Ok(()),
@@ -235,7 +235,7 @@ impl Judge {
         }
     }
 
-    /// Compares the answer of the last step with a text: true where it is written so.
+    /// Compares the answer of the last step with a text: true if it is spelled so.
     fn answers_so(&mut self, text: &[u8]) -> bool
         ensures holds { result ≡ answers_so self.old.last (newest (book_of self.old)) text.now }
         ensures same { self.new ≡ self.old }
@@ -246,8 +246,8 @@ impl Judge {
         }
     }
 
-    /// Finds the first record of the last step that is written so, among those not passed yet.
-    /// Returns the place after it, and how many messages were sent before that place.
+    /// Finds the first record of the last step that is spelled so, after those already matched.
+    /// Returns the index after it, and how many messages were sent before that index.
     fn found(&mut self, text: &[u8]) -> Option<(usize, u128)>
         ensures found { result ≡ found self.old.last (newest (book_of self.old)) text.now }
         ensures few { IfSome result (λ at. at.1 ≤ 2 ^ 32 + at.0) }
@@ -260,7 +260,7 @@ impl Judge {
         found_from(&mut self.seen, &line, next, sent, text)
     }
 
-    /// Compares a line of a record.
+    /// Judges a line `+`.
     fn take_record(&mut self, text: &[u8]) -> Told
         ensures { (result, self.new)
             ≡ with_found (found self.old.last (newest (book_of self.old)) text.now) self.old }
@@ -272,7 +272,7 @@ impl Judge {
         Told::Record { holds: true }
     }
 
-    /// Why the last step is skipped: nothing has changed since.
+    /// Returns why the last step was skipped: nothing has changed since.
     fn reason(&self) -> Option<EnterFault>
         ensures { result ≡ reason (book_of self.now) self.now.step }
     {
@@ -281,8 +281,7 @@ impl Judge {
         kernel.fault(core, thread)
     }
 
-    /// Returns whether the last step was skipped, and for the reason that a text gives, if it gives
-    /// one.
+    /// Returns whether the last step was skipped, for the reason in the text, if it gives one.
     fn was_away(&mut self, why: Option<EnterFault>, text: &[u8]) -> Result<bool, LabFault>
         ensures holds { IfOk result (λ holds. holds
             ≡ was_away self.old.last (reason (book_of self.old) self.old.step) why text.now) }
@@ -297,7 +296,7 @@ impl Judge {
         Ok(why.is_none() || self.seen.text() == text)
     }
 
-    /// Returns whether the state answers a question so.
+    /// Returns whether the state gives this answer to a question.
     fn says_so(&mut self, question: &Question, text: &[u8]) -> Result<bool, LabFault>
         ensures holds { IfOk result
             (λ holds. holds ≡ says_so (book_of self.old) question.now text.now) }
@@ -311,7 +310,7 @@ impl Judge {
         Ok(self.seen.text() == text)
     }
 
-    /// Judges what is asked on a line.
+    /// Judges a line `#?`.
     fn answer(&mut self, text: &[u8]) -> Result<Told, LabFault>
         ensures told { IfOk result
             (λ told. told ≡ answered self.old text.now (asked_of text.now)) }
@@ -352,7 +351,7 @@ impl Judge {
         Ok(Told::Step)
     }
 
-    /// Takes a line, which ends in a newline.
+    /// Judges a line, which ends in a newline.
     pub fn take(&mut self, alloc: Global, text: &[u8]) -> Result<Told, LabFault>
         ensures { IfOk result (λ told. (told, self.new) ≡ judged self.old text.now) }
     {

@@ -1,30 +1,30 @@
-//! The last step of a script, and what comes of a line.
+//! The last step of a script, and the result of a line.
 
-/// The last step of a script, as far as the lines after it speak of it.
+/// The last step of a script, as the lines after it need it.
 #[derive(Clone, Copy)]
 pub enum Last {
     /// There was none.
     NoStep,
     /// It was skipped.
     Away,
-    /// It was let in. Its records are compared from this one on, before which so many messages were
-    /// sent.
+    /// It was accepted. Its records are compared from index `next` on; `sent` messages were sent
+    /// before that.
     LetIn { next: usize, sent: u128 },
 }
 
-/// What comes of a line: a verdict, where something is wanted on it.
+/// The result of a line: a verdict, if it expects something.
 #[derive(Clone, Copy)]
 pub enum Told {
-    /// It says nothing: it is empty, a remark, or of the boot.
+    /// It expects nothing: it is empty, a comment, or of the boot.
     Nothing,
     /// It is a step.
     Step,
-    /// The last step is wanted to have this answer.
+    /// The last step should have this answer.
     Answer { holds: bool },
-    /// The last step is wanted to have this record.
+    /// The last step should have this record.
     Record { holds: bool },
-    /// Something is asked of what follows the last step.
+    /// A question about the state after the last step.
     Asked { holds: bool },
-    /// It begins as a question, and is none.
+    /// It begins as a question, but is none.
     NoQuestion,
 }

@@ -1,4 +1,4 @@
-//! The name that each object has: the last that it was given.
+//! The current name of each object: the last one given.
 ghost use Rattle.std.specs.Prelude.{◌≡◌, ◌≤◌, None, OnOk, OnErr, option_copied};
 ghost use Rattle.mcs_types.specs.declared.id.ObjId.{ObjId};
 ghost use Rattle.mcs_types.specs.Ids.{kind_number};
@@ -9,7 +9,7 @@ use mcs_types::{Kind, ObjId};
 use std::alloc::{AllocError, Global};
 use std::marker::Model;
 
-/// The names that objects have, by the numbers of the objects: none is looked for among the others.
+/// The current names of objects, by the objects' keys, so that lookup needs no search.
 #[derive(Drop)]
 pub struct Latest {
     names: IndexMap<u64, Vec<u8>>,
@@ -38,7 +38,7 @@ fn kind_number(kind: Kind) -> u64
     }
 }
 
-/// Returns a number for an object, which no other has.
+/// Returns a unique number for an object.
 fn key_of(object: ObjId) -> u64
     ensures { result ≡ key_of object }
 {
@@ -46,7 +46,7 @@ fn key_of(object: ObjId) -> u64
 }
 
 impl Latest {
-    /// Returns no names.
+    /// Returns an empty table of names.
     pub fn new(alloc: Global) -> Latest
         ensures { (o : ObjId) → name_in result o ≡ None }
     {
@@ -66,7 +66,7 @@ impl Latest {
         }
     }
 
-    /// Gives an object a name, in place of the one that it has.
+    /// Gives an object a name, which replaces an earlier one.
     pub fn put(&mut self, object: ObjId, name: Vec<u8>) -> Result<(), AllocError>
         ensures given { OnOk result ((o : ObjId) → name_in self.new o
             ≡ named_now object name.items (name_in self.old o) o) }

@@ -1,4 +1,4 @@
-//! Scripts that test themselves: whether what follows each step holds, by questions to the kernel.
+//! Scripts that test themselves: checks what each expects of its steps, by questions to the kernel.
 #![tactic(auto)]
 
 mod asking;

@@ -31,7 +31,7 @@ impl Model for Given {
     ghost view = { λ g. record { object = g.object; name = g.name.items } };
 }
 
-/// What a name names.
+/// What a name refers to.
 #[derive(Clone, Copy)]
 pub enum Named {
     Nothing,
@@ -40,8 +40,7 @@ pub enum Named {
     Several,
 }
 
-/// The names that were given, of which the last for an object holds. Clauses see all that were
-/// given, in their order.
+/// The names that were given; for an object, the last one holds. Clauses see all of them, in order.
 #[derive(Drop)]
 pub struct Names {
     all: Vec<Given>,
@@ -61,8 +60,7 @@ impl Model for Names {
     ghost invariant = { λ n. (o : ObjId) → name_in n.latest o ≡ name_of n.all.items o };
 }
 
-/// Returns the text after `#@ ` of a line, which may end with a newline, without that; None where
-/// the line has another beginning.
+/// Returns the text after `#@ ` of a line, without its newline; None if the line begins otherwise.
 fn name_text(line: &[u8]) -> Option<&[u8]>
     ensures { option_copied result ≡ name_text line.now }
 {
@@ -73,7 +71,7 @@ fn name_text(line: &[u8]) -> Option<&[u8]>
     }
 }
 
-/// Returns whether a name may have this byte: what is written is one word, and needs no quotes.
+/// Returns whether a name may contain this byte: names are single words and need no quotes.
 fn is_of_name(byte: u8) -> bool
     ensures { result ≡ is_of_name byte }
 {
@@ -87,14 +85,14 @@ fn are_of_name(word: &[u8]) -> bool
     word.iter().all(|byte| is_of_name(*byte))
 }
 
-/// Returns whether a word may be a name: it is not empty, and has not the shape of an object's id.
+/// Returns whether a word may be a name: it is not empty, and does not look like an object's id.
 fn is_name(word: &[u8]) -> bool
     ensures { result ≡ is_name word.now }
 {
     !word.is_empty() && are_of_name(word) && !is_like_id(word)
 }
 
-/// Returns what the text after `#@ ` says: an object, and its name. None where it has another form.
+/// Returns the object and the name in the text after `#@ `; None if it has another form.
 fn naming_of(text: &[u8]) -> Option<(ObjId, &[u8])>
     ensures { answered result ≡ naming_of (words_of text.now) }
 {
@@ -122,7 +120,7 @@ fn has_name(latest: &Latest, object: ObjId, name: &[u8]) -> bool
     }
 }
 
-/// Returns whether an object was given this name, and has it still.
+/// Returns whether an object was given this name, and still has it.
 fn gives(all: &[Given], latest: &Latest, given: &Given, name: &[u8]) -> bool
     requires { (o : ObjId) → name_in latest.now o ≡ name_of all.now o }
     ensures { result ≡ gives all.now name.now given.now }
@@ -130,7 +128,7 @@ fn gives(all: &[Given], latest: &Latest, given: &Given, name: &[u8]) -> bool
     given.name.as_slice() == name && has_name(latest, given.object, name)
 }
 
-/// Returns what a name names, where it names one object more.
+/// Returns what a name refers to after one more object with it was found.
 fn with_found(found: Named, object: ObjId) -> Named
     ensures { result ≡ with_found found object }
 {
@@ -141,7 +139,7 @@ fn with_found(found: Named, object: ObjId) -> Named
     }
 }
 
-/// Returns what a name names among those that were given.
+/// Returns what a name refers to among those given.
 fn what_named(all: &[Given], latest: &Latest, name: &[u8]) -> Named
     requires { (o : ObjId) → name_in latest.now o ≡ name_of all.now o }
     ensures { result ≡ what_named all.now name.now }
@@ -155,8 +153,7 @@ fn what_named(all: &[Given], latest: &Latest, name: &[u8]) -> Named
     found
 }
 
-/// Returns the object of a queue, and the suffix that names the queue among the object's: `.send`,
-/// `.recv` or `.wait`.
+/// Returns the object of a queue, and the suffix of the queue: `.send`, `.recv` or `.wait`.
 fn queue_parts(queue: Queue) -> (ObjId, &'static str) {
     match queue {
         Queue::Senders(object) => (object, ".send"),
@@ -166,7 +163,7 @@ fn queue_parts(queue: Queue) -> (ObjId, &'static str) {
 }
 
 impl Names {
-    /// Returns no names.
+    /// Returns an empty list of names.
     pub fn new(alloc: Global) -> Names
         ensures { result ≡ [] }
     {
@@ -176,7 +173,7 @@ impl Names {
         }
     }
 
-    /// Adds a name that an object is given.
+    /// Gives an object a name.
     fn give(&mut self, alloc: Global, object: ObjId, word: &[u8]) -> Result<(), AllocError>
         ensures given { OnOk result (self.new
             ≡ self.old ++ record { object = object; name = word.now } ∷ []) }
@@ -191,9 +188,9 @@ impl Names {
         Ok(())
     }
 
-    /// Takes a line of a script, with its newline or without. Where it begins with `#@ ` it gives a
-    /// name: an object, and one word of letters, digits, `-`, `_` and `.`, which has not the shape
-    /// of an object's id. Fault Form where it has not this form.
+    /// Takes a line of a script, with its newline or without. A line `#@ OBJECT NAME` gives a name:
+    /// one word of letters, digits, `-`, `_` and `.`, which does not look like an object's id.
+    /// Fault `Form` if it has another form.
     pub fn hear(&mut self, alloc: Global, number: u64, line: &[u8]) -> Result<(), LabFault>
         ensures given { OnOk result (self.new ≡ self.old ++ line_names line.now) }
         ensures formed { OnOk result (is_formed line.now ≡ true) }
@@ -216,14 +213,14 @@ impl Names {
         self.latest.of(object)
     }
 
-    /// Returns what a name names. An object has the name that it was given last.
+    /// Returns what a name refers to. The last name given to an object counts.
     pub fn find(&self, name: &[u8]) -> Named
         ensures { result ≡ what_named self.now name.now }
     {
         what_named(&self.all, &self.latest, name)
     }
 
-    /// Writes the name of an object between parentheses, where it has one.
+    /// Writes the name of an object in parentheses, if it has one.
     fn put_name<W: Write>(&self, to: &mut W, object: ObjId) -> io::Result<()> {
         let Some(name) = self.of(object) else {
             return Ok(());
@@ -233,7 +230,7 @@ impl Names {
         to.write_all(b")")
     }
 
-    /// Writes an object, with its name where it has one: `t1 (client)`.
+    /// Writes an object, with its name if it has one: `t1 (client)`.
     pub fn put<W: Write>(&self, to: &mut W, object: ObjId) -> io::Result<()> {
         to.write_all(&[letter(object.kind)])?;
         let serial = object.serial;
@@ -249,7 +246,7 @@ impl Names {
         }
     }
 
-    /// Writes a queue, with the name of its object where it has one.
+    /// Writes a queue, with the name of its object, if it has one.
     pub fn put_queue<W: Write>(&self, to: &mut W, queue: Queue) -> io::Result<()> {
         let (object, end) = queue_parts(queue);
         to.write_all(&[letter(object.kind)])?;
@@ -258,7 +255,7 @@ impl Names {
         self.put_name(to, object)
     }
 
-    /// Writes the name of what a word stands for between parentheses, where it has one.
+    /// Writes in parentheses the name of the object that a word means, if it has one.
     pub fn put_name_of<W: Write>(&self, to: &mut W, word: &[u8]) -> io::Result<()> {
         if let Some(queue) = queue_of(word) {
             return self.put_name(to, queue_parts(queue).0);
@@ -269,8 +266,8 @@ impl Names {
         }
     }
 
-    /// Returns an object and its name: those of a number, from 0, of all that were given. None
-    /// where the object has another name now, or there is no such number.
+    /// Returns an object and its name, by its index among the names given; None if the object has a
+    /// newer name, or there is no such index.
     pub fn given(&self, number: usize) -> Option<(ObjId, &[u8])>
         ensures { answered result ≡ given_at self.now number }
     {

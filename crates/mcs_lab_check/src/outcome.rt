@@ -5,9 +5,9 @@ ghost use Rattle.mcs_lab_check.specs.Outcomes.{status_of};
 /// How a command ends.
 #[derive(Clone, Copy, PartialEq, Eq, Debug)]
 pub enum Outcome {
-    /// It did what was asked, and all that was wanted holds.
+    /// It did what was asked, and all expectations hold.
     Done,
-    /// Something that was wanted does not hold, or a thread or a user is stuck.
+    /// An expectation failed, or a thread or a user is stuck.
     Unmet,
     /// A line of the script, of the plan or of its questions is refused.
     Refused,
@@ -19,9 +19,9 @@ pub enum Outcome {
     BookFull,
     /// Memory was refused.
     OutOfMemory,
-    /// A budget ended a search in which nothing failed so far.
+    /// A budget ended a search, and nothing failed so far.
     Stopped,
-    /// The command line asks for what is not there: an option, a file or a line.
+    /// The command line names an option, a file or a line that does not exist.
     Call,
 }
 

@@ -8,22 +8,21 @@ use memchr::memchr;
 use std::alloc::Global;
 use std::io::Read;
 
-/// What takes the lines of a script, one after the other.
+/// Receives the lines of a script, one after the other.
 pub trait TakesLines {
     /// Takes a line, with its newline.
     fn take_line(&mut self, alloc: Global, line: &[u8]) -> Result<(), LabFault>;
 
-    /// How many lines were taken.
+    /// Returns how many lines were taken.
     fn taken(&self) -> u64;
 
-    /// Writes out what came of the lines so far, before more of the input is waited for. Does
-    /// nothing unless an impl says otherwise.
+    /// Flushes the results of the lines so far, before more input is read. Does nothing by default.
     fn pause(&mut self) -> Result<(), LabFault> {
         Ok(())
     }
 }
 
-/// Keeps a part of a line. Fault LongLine (7) where the line has more than 4,096 bytes.
+/// Keeps a part of a line. Fault `LongLine` (7) if the line has more than 4,096 bytes.
 fn keep(left: &mut Vec<u8>, part: &[u8], taken: u64) -> Result<(), LabFault> {
     if part.len() > SCRIPT_LINE_BYTES.saturating_sub(left.len()) {
         return Err(LabFault::Script {
@@ -35,7 +34,7 @@ fn keep(left: &mut Vec<u8>, part: &[u8], taken: u64) -> Result<(), LabFault> {
     Ok(())
 }
 
-/// Hands on a line. A fault of the line says which flaw it has.
+/// Passes on a line. A fault of the line says which flaw it has.
 fn hand_on<T: TakesLines>(alloc: Global, line: &[u8], to: &mut T) -> Result<(), LabFault> {
     match to.take_line(alloc, line) {
         Ok(()) => Ok(()),
@@ -43,7 +42,7 @@ fn hand_on<T: TakesLines>(alloc: Global, line: &[u8], to: &mut T) -> Result<(), 
     }
 }
 
-/// Hands on the lines that a piece ends, and keeps what is left of it.
+/// Passes on the lines that a piece ends, and keeps the rest of it.
 fn take_piece<T: TakesLines>(
     alloc: Global,
     left: &mut Vec<u8>,
@@ -72,7 +71,7 @@ fn take_piece<T: TakesLines>(
     keep(left, rest, to.taken())
 }
 
-/// Hands on the lines of an input; the last may lack its newline.
+/// Passes on the lines of an input; the last may lack its newline.
 pub fn take_lines<R: Read, T: TakesLines>(
     alloc: Global,
     from: &mut Source<R>,

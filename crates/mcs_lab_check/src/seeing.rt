@@ -1,4 +1,4 @@
-//! What the kernel says to a question, in the words in which it is asked.
+//! The kernel's answers to questions, spelled as questions are.
 ghost use Rattle.std.specs.Prelude.{◌≡◌, ◌++◌, OnOk, option_copied};
 ghost use Rattle.std.specs.List.{flat_map};
 ghost use Rattle.mcs_text.specs.Spelling.{name_text, maybe_text, then_text};
@@ -15,7 +15,7 @@ use mcs_queues::LinkedLines;
 use mcs_text::{Key, Token};
 use mcs_types::{Mail, Message, ObjId, Prio, Queue, Status};
 
-/// Puts a name and a word.
+/// Appends a name and a word.
 fn begin(to: &mut Text, object: ObjId, word: &[u8]) -> Result<(), LabFault>
     ensures { OnOk result (to.new ≡ to.old ++ begin object word.now) }
 {
@@ -24,7 +24,7 @@ fn begin(to: &mut Text, object: ObjId, word: &[u8]) -> Result<(), LabFault>
     to.put(word)
 }
 
-/// Puts a name, a word, and a name or a dash.
+/// Appends a name, a word, and a name or a dash.
 fn put_relation(
     to: &mut Text,
     object: ObjId,
@@ -38,7 +38,7 @@ fn put_relation(
     to.spaced(&Token::Maybe(other))
 }
 
-/// Puts a number, or a dash.
+/// Appends a number, or a dash.
 fn put_number_or_dash(to: &mut Text, number: Option<u64>) -> Result<(), LabFault>
     ensures { OnOk result (to.new ≡ to.old ++ number_or_dash number) }
 {
@@ -56,7 +56,7 @@ fn level(priority: Option<Prio>) -> Option<u64>
     Some(priority.0 as u64)
 }
 
-/// Puts the words that come before the reply object that owes a thread an answer.
+/// Appends the words before the reply object that owes a thread a reply.
 fn put_owed(to: &mut Text, by: bool) -> Result<(), LabFault>
     ensures { OnOk result (to.new ≡ to.old ++ owed_text by) }
 {
@@ -66,7 +66,7 @@ fn put_owed(to: &mut Text, by: bool) -> Result<(), LabFault>
     to.put(b" owed")
 }
 
-/// Puts what a thread does.
+/// Appends what a thread does.
 fn put_status(to: &mut Text, status: Option<Status>, by: bool) -> Result<(), LabFault>
     ensures { OnOk result (to.new ≡ to.old ++ status_text by status) }
 {
@@ -87,7 +87,7 @@ fn put_status(to: &mut Text, status: Option<Status>, by: bool) -> Result<(), Lab
     }
 }
 
-/// Puts the label and the words of a message.
+/// Appends the label and the words of a message.
 fn put_content(to: &mut Text, message: &Message) -> Result<(), LabFault>
     ensures { OnOk result (to.new ≡ to.old ++ content_text message.now) }
 {
@@ -99,7 +99,7 @@ fn put_content(to: &mut Text, message: &Message) -> Result<(), LabFault>
     Ok(())
 }
 
-/// Puts what last reached a thread.
+/// Appends what last reached a thread.
 fn put_mail(to: &mut Text, mail: Option<&Mail>) -> Result<(), LabFault>
     ensures { OnOk result (to.new ≡ to.old ++ mail_text (option_copied mail.entry)) }
 {
@@ -117,7 +117,7 @@ fn put_mail(to: &mut Text, mail: Option<&Mail>) -> Result<(), LabFault>
     }
 }
 
-/// Puts the same, where the message of an answer has no badge.
+/// Appends what last reached a thread as a reply, whose message has no badge.
 fn put_answered(to: &mut Text, mail: Option<&Mail>) -> Result<(), LabFault>
     ensures { OnOk result (to.new ≡ to.old ++ answered_text (option_copied mail.entry)) }
 {
@@ -130,7 +130,7 @@ fn put_answered(to: &mut Text, mail: Option<&Mail>) -> Result<(), LabFault>
     }
 }
 
-/// Puts the reply objects in a context's chain, or a dash.
+/// Appends the reply objects in a context's chain, or a dash.
 fn put_chain(to: &mut Text, kernel: &Kernel<LinkedLines>, context: ObjId) -> Result<(), LabFault>
     ensures { OnOk result
         (to.new ≡ to.old ++ names_or_dash (chain_of (log_of kernel.now) context)) }
@@ -161,7 +161,7 @@ fn put_queue(to: &mut Text, kernel: &Kernel<LinkedLines>, queue: Queue) -> Resul
     Ok(())
 }
 
-/// Puts what the kernel says to a question, in the words in which it is asked.
+/// Appends the kernel's answer to a question, spelled as the question is.
 pub fn see(to: &mut Text, kernel: &Kernel<LinkedLines>, question: &Question) -> Result<(), LabFault>
     ensures { OnOk result (to.new ≡ to.old ++ seen (log_of kernel.now) question.now) }
 {

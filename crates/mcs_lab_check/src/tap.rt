@@ -1,4 +1,4 @@
-//! Verdicts as lines of TAP, with what was seen as YAML after those that do not hold.
+//! Verdicts as TAP; after those that fail, YAML says what was seen.
 ghost use Rattle.std.specs.Prelude.{◌≡◌, ◌<◌, OnOk};
 ghost use Rattle.std.specs.Io.KnownBytes.{Appends};
 ghost use Rattle.mcs_lab_check.specs.Shown.{hex_digit, is_printable, shown_byte, shown};
@@ -27,7 +27,7 @@ fn hex_digit(number: u8) -> u8
     }
 }
 
-/// Returns whether a byte is printable ASCII, and so stands for itself in a message.
+/// Returns whether a byte is printable ASCII, which messages show as it is.
 pub fn is_printable(byte: u8) -> bool
     ensures { result ≡ is_printable byte }
 {
@@ -44,8 +44,8 @@ fn put_byte<W: Write>(to: &mut W, byte: u8) -> io::Result<()>
     to.write_all(&[b'\\', b'x', hex_digit(byte / 16), hex_digit(byte % 16)])
 }
 
-/// Writes bytes of the input as messages show them: each that is no printable ASCII as `\x1b`, with
-/// two digits. The error is that of the writer.
+/// Writes bytes of the input as messages show them: unprintable ones as `\x1b`, with two digits.
+/// The error is that of the writer.
 pub fn put_shown<W: Write>(to: &mut W, bytes: &[u8]) -> io::Result<()>
     ensures { OnOk result (Appends (W.contents to.old) (W.contents to.new) (shown bytes.now)) }
 {
@@ -55,7 +55,8 @@ pub fn put_shown<W: Write>(to: &mut W, bytes: &[u8]) -> io::Result<()>
     Ok(())
 }
 
-/// Writes the bytes of a word as messages show them, but each of two kinds behind another byte.
+/// Writes the bytes of a word as messages show them; `before` precedes each byte of the two
+/// `kinds`.
 fn put_word<W: Write>(to: &mut W, word: &[u8], before: u8, kinds: [u8; 2]) -> io::Result<()> {
     for byte in word {
         if *byte == kinds[0] || *byte == kinds[1] {
@@ -67,18 +68,18 @@ fn put_word<W: Write>(to: &mut W, word: &[u8], before: u8, kinds: [u8; 2]) -> io
     Ok(())
 }
 
-/// Whether a text stands for itself in a description of TAP.
+/// Returns whether a text needs no escape in a description of TAP.
 pub fn is_plain(text: &[u8]) -> bool {
     text.iter().all(|byte| is_printable(*byte) && *byte != b'#' && *byte != b'\\')
 }
 
-/// Writes a description of TAP, in which `#` and `\` follow a `\`.
+/// Writes a description of TAP, in which `\` precedes `#` and `\`.
 pub fn put_description<W: Write>(to: &mut W, text: &[u8]) -> io::Result<()> {
     put_word(to, text, b'\\', [b'#', b'\\'])
 }
 
-/// Writes a text of YAML between single quotes, in which a quote is doubled, with the names of what
-/// its words stand for.
+/// Writes a YAML text in single quotes, doubling quotes, with the names of the objects that its
+/// words mean.
 pub fn put_quoted<W: Write>(to: &mut W, names: &Names, text: &[u8]) -> io::Result<()> {
     to.write_all(b"'")?;
     let mut words = Words::new(text);

@@ -1,4 +1,4 @@
-//! Text that grows.
+//! A text buffer.
 ghost use Rattle.std.specs.Prelude.{◌≡◌, ◌∷◌, [], ◌++◌, IfOk, OnOk, bytes_eq};
 ghost use Rattle.mcs_text.specs.Spelling.{then_text, token_text};
 ghost use Rattle.mcs_text.specs.Table.{answer_text, record_text};
@@ -10,7 +10,7 @@ use mcs_trace::{Line, spell, spell_answer, spell_record};
 use std::alloc::Global;
 use std::marker::Model;
 
-/// Text that grows, and the line in which its words are spelled. Clauses see the text.
+/// A text buffer, and a line buffer for its words. Clauses see the text.
 #[derive(Drop)]
 pub struct Text {
     bytes: Vec<u8>,
@@ -26,7 +26,7 @@ impl Model for Text {
 }
 
 impl Text {
-    /// No text.
+    /// Returns an empty text.
     pub fn new(alloc: Global) -> Result<Text, LabFault>
         ensures { IfOk result (λ t. t ≡ []) }
     {
@@ -43,7 +43,7 @@ impl Text {
         self.bytes.as_slice()
     }
 
-    /// Begins anew.
+    /// Empties the buffer.
     pub fn clear(&mut self)
         ensures { self.new ≡ [] }
     {
@@ -75,7 +75,7 @@ impl Text {
         self.word(token)
     }
 
-    /// Returns whether the line of an answer is this one.
+    /// Returns whether an answer is spelled as this line.
     pub fn is_answer(&mut self, answer: &KeptAnswer<'_>, line: &[u8]) -> bool
         ensures holds { result ≡ bytes_eq (answer_text answer.now) line.now }
         ensures same { self.new ≡ self.old }
@@ -84,7 +84,7 @@ impl Text {
         self.word.text() == line
     }
 
-    /// Returns whether the line of a record, before which so many messages were sent, is this one.
+    /// Returns whether a record, before which `sent` messages were sent, is spelled as this line.
     pub fn is_record(&mut self, sent: u128, fact: &KeptRecord<'_>, line: &[u8]) -> bool
         ensures holds { result ≡ bytes_eq (record_text sent fact.now) line.now }
         ensures same { self.new ≡ self.old }

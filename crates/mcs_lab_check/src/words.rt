@@ -15,7 +15,7 @@ fn digit(byte: u8) -> Option<u32>
     None
 }
 
-/// The number that a word of one to three digits writes; it does not begin with 0, unless it is 0.
+/// Returns the number of a word of one to three digits, without leading zeros.
 pub fn number_of(word: &[u8]) -> Option<u32>
     ensures is { result ≡ number_of word.now }
     ensures few { IfSome result (λ n. n < 1000) }
@@ -67,7 +67,7 @@ pub fn object_of(word: &[u8]) -> Option<ObjId>
     Some(ObjId { kind, serial })
 }
 
-/// Which queue of an object an ending names.
+/// Returns the queue of an object with this suffix.
 fn queue_with(object: ObjId, end: &[u8]) -> Option<Queue>
     ensures { result ≡ queue_with object.kind object end.now }
 {
@@ -79,7 +79,7 @@ fn queue_with(object: ObjId, end: &[u8]) -> Option<Queue>
     }
 }
 
-/// The queue that a word names: an object, and an ending of five letters.
+/// Returns the queue that a word names: an object, and a suffix of five bytes.
 pub fn queue_of(word: &[u8]) -> Option<Queue>
     ensures { result ≡ queue_of word.now }
 {

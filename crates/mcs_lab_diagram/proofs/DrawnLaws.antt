@@ -15,7 +15,7 @@ use Rattle.mcs_lab_diagram.specs.Looks.{looks_in, looks_of, looks_before}
 use Rattle.mcs_lab_diagram.specs.Picks.{AddsPicks, ArePicks, ArePicksBefore}
 use Rattle.mcs_lab_diagram.specs.Drawn.{AreDrawn, IsDrawnBefore, AreDrawnBefore}
 
--- what was drawn of a book is what was drawn before a step that is let in
+-- what was drawn of a book is what was drawn before a step that is accepted
 pub drawn_before : (s : Strokes) (looks : List Look) (picks : List (Option ObjId)) (b c : Book) (step : Step) → AreDrawn s looks picks b → c ≡ entered b step
     → AreDrawnBefore s looks picks step.thread c
 drawn_before s looks picks b c step drawn is =

@@ -9,7 +9,7 @@ use Rattle.mcs_book.specs.Statuses.{may_enter}
 use Rattle.mcs_book.specs.Picking.{is_candidate, IsPick}
 use Rattle.mcs_lab_diagram.specs.Picks.{ArePicksFrom, AddsPicks}
 
--- nobody is in the list without marks
+-- no thread is in the list without marks
 has-none : (t : ObjId) → has [] t ≡ false
 has-none t = go (is_markable t)
   where

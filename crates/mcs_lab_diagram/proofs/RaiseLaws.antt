@@ -18,7 +18,7 @@ fresh zero (suc k) here count = absurd (omega (arith, count))
 fresh (suc n) zero here count = absurd (omega (arith, count))
 fresh (suc n) (suc k) here count = ap (λ (qs : List (Option Point)). None ∷ qs) (fresh n k here (omega (arith, count)))
 
--- the same, behind a list
+-- the same, after a list
 beyond : (ps : List (Option Point)) (n k : ℕ) (here : Point) → length ps + k ≡ n → (take n ps ++ replicate k None) ++ Some here ∷ [] ≡ raised_with ps n here
 beyond [] zero k here count = fresh zero k here (omega (arith, count))
 beyond [] (suc n) k here count = fresh (suc n) k here (omega (arith, count))
@@ -41,7 +41,7 @@ point-thread here (Some (Some p)) = refl
 point-thread here (Some None) = refl
 point-thread here None = refl
 
--- who is kept behind a raise, of its notification and of any other
+-- who is kept after a raise, of its notification and of any other
 pub raised-same : (ps : List (Option Point)) (n : ℕ) (here : Point) → thread_in (slice_get (raised_with ps n here) n) ≡ Some here.thread
 raised-same [] zero here = refl
 raised-same [] (suc n) here = raised-same [] n here

@@ -1,4 +1,4 @@
--- Sends that reached nobody.
+-- Sends that reached no thread.
 use Rattle.std.specs.Prelude.{Bool, true, false, not, ◌&&◌, List, [], ◌∷◌}
 use Rattle.mcs_types.specs.declared.entry.Entry.{Entry}
 use Rattle.mcs_types.specs.declared.entry.Entry.TheVariants.{Send, NbSend, ReplyRecv, NbSendRecv, NbSendWait}
@@ -8,7 +8,7 @@ use Rattle.mcs_types.specs.declared.record.Rec.{Rec}
 use Rattle.mcs_types.specs.declared.record.Rec.TheVariants.{Sent, Paid, Raised}
 use Rattle.mcs_book.specs.History.{Line}
 
--- whether an entry sends what may reach nobody
+-- whether an entry sends what may reach no thread
 abbrev pub may_be_dropped : Entry → Bool
 may_be_dropped (Send cap message) = true
 may_be_dropped (NbSend cap message) = true
@@ -34,6 +34,6 @@ abbrev pub accepts_none : List Rec → Bool
 accepts_none [] = true
 accepts_none (rec ∷ recs) = not (accepts rec) && accepts_none recs
 
--- whether the entry of a line sent something that reached nobody
+-- whether the entry of a line sent something that reached no thread
 abbrev pub is_dropped : Line → Bool
 is_dropped l = may_be_dropped l.step.entry && (is_passed l.answer && accepts_none l.records)

@@ -5,7 +5,7 @@ use Rattle.mcs_book.specs.Logs.{Log}
 use Rattle.mcs_book.specs.Picking.{IsPick}
 use Rattle.mcs_book.specs.History.{Line, past}
 
--- these are the picks of the cores from the number i on, where nobody is passed over
+-- these are the picks of the cores from the number i on, where no thread is passed over
 abbrev pub ArePicksFrom : Log → ℕ → List (Option ObjId) → Type 0
 ArePicksFrom R i [] = Unit {0}
 ArePicksFrom R i (p ∷ ps) = IsPick R (record { 0 = i }) [] p × ArePicksFrom R (i + 1) ps
@@ -17,7 +17,7 @@ pub record AddsPicks (R : Log) (n : ℕ) (old new : List (Option ObjId)) : Type 
   pub count : length row ≡ n
   pub picks : ArePicksFrom R 0 row
 
--- the rows after the boot and after each of these lines, the newest of which is first, of so many
+-- the rows after the boot and after each of these lines, the newest of which is first, of this many
 -- cores
 abbrev pub ArePicks : ℕ → Log → List Line → List (Option ObjId) → Type 0
 ArePicks cores B [] ps = AddsPicks B cores [] ps

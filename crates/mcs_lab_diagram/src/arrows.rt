@@ -1,5 +1,5 @@
-//! The arrows of a picture: each message from its sender to its taker, each answer, and each word
-//! from who raised its notification last to who heard it.
+//! The arrows of a picture: each message from its sender to its taker, each reply, and each word
+//! from the thread that raised its notification last to the one that heard it.
 ghost use Rattle.std.specs.Prelude.{◌≡◌, ◌≤◌, ◌-◌, ◌++◌, None, IfOk, OnOk, length, replicate, take};
 ghost use Rattle.mcs_lab_diagram.specs.Arrows.{beside, no_strokes, raise_of, raised_with, start_of, with_arrow, with_raise, with_record, with_records};
 
@@ -9,7 +9,7 @@ use mcs_types::{ObjId, Rec};
 use std::alloc::{AllocError, Global};
 use std::marker::Model;
 
-/// A thread in a row: that of a line of the book, by its number.
+/// A thread in a row: the row of a line of the book, by its number.
 #[derive(Clone, Copy)]
 pub struct Point {
     pub row: usize,
@@ -35,8 +35,8 @@ pub struct Arrow {
     pub to: Point,
 }
 
-/// Where each message was sent from, where each notification was raised last, by its serial, and
-/// the arrows, in the order of their records.
+/// Where each message was sent, where each notification was last raised, by its serial, and the
+/// arrows, in the order of their records.
 #[derive(Drop)]
 pub struct Strokes {
     sent: Vec<Point>,
@@ -56,7 +56,7 @@ impl Model for Strokes {
     } };
 }
 
-/// A thread in the row of a point.
+/// Returns a thread in the row of a point.
 fn beside(here: Point, thread: ObjId) -> Point
     ensures { result ≡ beside here thread }
 {
@@ -66,7 +66,7 @@ fn beside(here: Point, thread: ObjId) -> Point
     }
 }
 
-/// Lengthens a list to so many places.
+/// Lengthens a list to `count` items.
 fn lengthen(raised: &mut Vec<Option<Point>>, count: usize) -> Result<(), AllocError>
     ensures { OnOk result (raised.new.items ≡ take count raised.old.items
         ++ replicate (count - length raised.old.items) None) }
@@ -75,7 +75,7 @@ fn lengthen(raised: &mut Vec<Option<Point>>, count: usize) -> Result<(), AllocEr
     Ok(())
 }
 
-/// Writes where the notification of a serial was raised, which has no place yet.
+/// Appends where the notification of a new serial was raised.
 #[tactic(auto, using(crate::proofs::RaiseLaws::raised_beyond))]
 fn add_raised(raised: &mut Vec<Option<Point>>, serial: u32, here: Point) -> Result<(), AllocError>
     requires { length raised.old.items ≤ serial }
@@ -86,7 +86,7 @@ fn add_raised(raised: &mut Vec<Option<Point>>, serial: u32, here: Point) -> Resu
     Ok(())
 }
 
-/// Writes where the notification of a serial was raised.
+/// Sets where the notification of a serial was raised.
 #[tactic(auto, using(crate::proofs::RaiseLaws::raised_within))]
 fn write_raised(raised: &mut Vec<Option<Point>>, serial: u32, here: Point) -> Result<(), AllocError>
     ensures { OnOk result (raised.new.items ≡ raised_with raised.old.items serial here) }
@@ -100,7 +100,7 @@ fn write_raised(raised: &mut Vec<Option<Point>>, serial: u32, here: Point) -> Re
 }
 
 impl Strokes {
-    /// Before the first line.
+    /// Returns an empty list of arrows.
     pub fn new(alloc: Global) -> Strokes
         ensures { result ≡ no_strokes }
     {
@@ -111,7 +111,7 @@ impl Strokes {
         }
     }
 
-    /// Where a message was sent from; this point where it was not sent.
+    /// Returns where a message was sent; `here` if it was not sent.
     pub fn start_of(&self, here: Point, message: u32) -> Point
         ensures { result ≡ start_of self.now here message }
     {
@@ -121,7 +121,7 @@ impl Strokes {
         }
     }
 
-    /// Where a notification was raised last; this point where it was not raised.
+    /// Returns where a notification was last raised; `here` if it was not raised.
     fn raise_of(&self, here: Point, notification: ObjId) -> Point
         ensures { result ≡ raise_of self.now here notification }
     {
@@ -153,7 +153,7 @@ impl Strokes {
         write_raised(&mut self.raised, notification.serial, here)
     }
 
-    /// Adds what a record draws, in the row in which this thread enters.
+    /// Adds the arrow of a record, if it has one, in the row in which this thread enters.
     pub fn add_record(&mut self, here: Point, fact: &Rec) -> Result<(), AllocError>
         ensures { OnOk result (self.new ≡ with_record here self.old fact.now) }
     {
@@ -182,7 +182,7 @@ impl Strokes {
         }
     }
 
-    /// Adds what a record draws, where the book keeps it.
+    /// Adds the arrow of a packed record, if it has one.
     fn add_kept(
         &mut self,
         alloc: Global,
@@ -197,7 +197,7 @@ impl Strokes {
         }
     }
 
-    /// Adds what the records of a line draw, in the row in which this thread enters.
+    /// Adds the arrows of a line's records, in the row in which this thread enters.
     #[tactic(auto, using(crate::proofs::StrokeLaws::with_records_at))]
     pub fn add_line(
         &mut self,

@@ -1,4 +1,4 @@
-//! What is drawn of a run, step by step.
+//! The drawing of a run, step by step.
 ghost use Rattle.std.specs.Prelude.{◌≡◌, ℕ, IfOk, OnOk, Some, None, [], map, option_map, slice_get};
 ghost use Rattle.std.specs.String.{string_bytes};
 ghost use Rattle.mcs_book.specs.Boots.{boot_log};
@@ -23,11 +23,11 @@ use std::alloc::{AllocError, Global};
 /// A step that was skipped.
 #[derive(Drop)]
 pub struct Away {
-    /// How many lines the book had.
+    /// How many lines the book had then.
     pub behind: usize,
     pub core: CoreId,
     pub thread: ObjId,
-    /// Its line in the script.
+    /// The step's line in the script.
     pub text: String,
     pub why: EnterFault,
 }
@@ -35,7 +35,7 @@ pub struct Away {
 /// Why a run is not drawn.
 #[derive(Clone, Copy, PartialEq, Eq, Debug)]
 pub enum DrawFault {
-    /// The book is full at a step that would be let in.
+    /// The book is full at a step that would be accepted.
     BookFull,
     /// Memory was refused.
     OutOfMemory,
@@ -47,15 +47,15 @@ impl From<AllocError> for DrawFault {
     }
 }
 
-/// Which lines of the book are shown: those from the first to the last of these numbers.
+/// The lines of the book that are shown, from the first to the last number.
 #[derive(Clone, Copy)]
 pub struct Window {
     pub first: usize,
     pub last: usize,
 }
 
-/// What is drawn of a run so far: the strokes, the looks of all threads in each row, which thread
-/// each core picks in each row, and the steps that were skipped.
+/// The drawing of a run so far: the arrows, the looks of all threads in each row, the pick of each
+/// core in each row, and the skipped steps.
 #[derive(Drop)]
 pub struct Drawing {
     pub kernel: Kernel<LinkedLines>,
@@ -65,14 +65,14 @@ pub struct Drawing {
     pub away: Vec<Away>,
 }
 
-/// Whether a step is kept out because the book is full.
+/// Returns whether a step is skipped because the book is full.
 fn is_full(why: EnterFault) -> bool
     ensures { result ≡ is_book_full (Some why) }
 {
     matches!(why, EnterFault::BookFull)
 }
 
-/// A text of its own.
+/// Returns a copy of a text.
 fn kept(alloc: Global, text: &str) -> Result<String, AllocError>
     ensures { IfOk result (λ s. string_bytes s ≡ text.now) }
 {
@@ -81,7 +81,7 @@ fn kept(alloc: Global, text: &str) -> Result<String, AllocError>
     Ok(kept)
 }
 
-/// Adds a row: which thread each core picks now.
+/// Adds a row: the current pick of each core.
 #[tactic(auto, using(crate::proofs::PickLaws::picks_none, crate::proofs::PickLaws::picks_next))]
 fn add_picks(picks: &mut Vec<Option<ObjId>>, kernel: &Kernel<LinkedLines>) -> Result<(), AllocError>
     ensures { OnOk result (AddsPicks (log_of kernel.now) kernel.now.boot.cores picks.old.items
@@ -94,7 +94,7 @@ fn add_picks(picks: &mut Vec<Option<ObjId>>, kernel: &Kernel<LinkedLines>) -> Re
     Ok(())
 }
 
-/// Draws the last line of a book, in which this thread enters; the lines before it are drawn.
+/// Draws the last line of a book, in which this thread enters; the lines before it were drawn.
 #[tactic(auto, using(crate::proofs::StrokeLaws::drawn_last, crate::proofs::StrokeLaws::drawn_none))]
 fn add_last(
     alloc: Global,
@@ -113,7 +113,7 @@ fn add_last(
 }
 
 impl Drawing {
-    /// Before the first line.
+    /// Returns the drawing before the first line.
     #[tactic(auto, using(crate::proofs::DrawnLaws::drawn_boot))]
     pub fn new(alloc: Global, boot: &Boot) -> Result<Drawing, AllocError>
         ensures book { IfOk result (λ d. d.kernel ≡ record { boot = boot.now; lines = [] }) }
@@ -136,7 +136,8 @@ impl Drawing {
         })
     }
 
-    /// Draws the last line of the book, in which this thread enters; what is before it is drawn.
+    /// Draws the last line of the book, in which this thread enters; the lines before it were
+    /// drawn.
     #[tactic(auto, using(crate::proofs::DrawnLaws::drawn_row))]
     fn add_row(&mut self, alloc: Global, thread: ObjId) -> Result<(), AllocError>
         requires before { AreDrawnBefore self.old.strokes self.old.looks.items self.old.picks.items
@@ -177,7 +178,7 @@ impl Drawing {
         Ok(())
     }
 
-    /// Draws a step that may enter: OutOfMemory where memory is refused.
+    /// Draws an accepted step. `OutOfMemory` if an allocation fails.
     #[tactic(auto, using(crate::proofs::DrawnLaws::drawn_before, crate::proofs::DrawnLaws::step_let_in))]
     fn let_in(&mut self, alloc: Global, step: &Step) -> Result<(), AllocError>
         requires drawn { AreDrawn self.old.strokes self.old.looks.items self.old.picks.items
@@ -194,8 +195,8 @@ impl Drawing {
         }
     }
 
-    /// Notes a step that may not enter for this reason: BookFull where it is that the book is full,
-    /// and OutOfMemory where memory is refused.
+    /// Notes a skipped step with its reason. `BookFull` if the reason is a full book, and
+    /// `OutOfMemory` if an allocation fails.
     #[tactic(auto, using(crate::proofs::DrawnLaws::step_turned))]
     fn keep_out(
         &mut self,
@@ -220,9 +221,9 @@ impl Drawing {
         Ok(())
     }
 
-    /// Draws a step, whose line in the script is this: one that may not enter leaves the book as it
-    /// is, and is noted. BookFull where the book is full for it, and OutOfMemory where memory is
-    /// refused; then the drawing is of no use.
+    /// Draws a step, whose line in the script is `text`; a skipped one leaves the book as it is,
+    /// and is noted. `BookFull` if the book is full for it, and `OutOfMemory` if an allocation
+    /// fails; then the drawing cannot be used any more.
     #[tactic(auto, using(crate::proofs::DrawnLaws::drawn_same))]
     pub fn enter(&mut self, alloc: Global, step: &Step, text: &str) -> Result<(), DrawFault>
         requires drawn { AreDrawn self.old.strokes self.old.looks.items self.old.picks.items
@@ -257,8 +258,8 @@ impl Drawing {
         let _ = &self.strokes;
     }
 
-    /// Proves that each message that was taken has a sender, so that `joins_as_asked` never uses
-    /// its default.
+    /// Proves that each taken message has a sender, so that `joins_as_asked` never uses its
+    /// default.
     #[tactic(auto, using(crate::proofs::SenderLaws::senders_there))]
     pub fn senders_known(&self)
         ensures { EachRecord HasSender self.now.kernel }
@@ -266,7 +267,7 @@ impl Drawing {
         self.kernel.is_fair();
     }
 
-    /// How many threads there are.
+    /// Returns how many threads there are.
     pub fn threads(&self) -> usize {
         self.kernel.made(Kind::Thread) as usize
     }
@@ -276,12 +277,12 @@ impl Drawing {
         self.kernel.book()
     }
 
-    /// How many lines the book has, without that of the boot.
+    /// Returns how many lines the book has, without that of the boot.
     pub fn lines(&self) -> usize {
         self.kernel.book().lines().saturating_sub(1)
     }
 
-    /// How a thread looks behind a line, by its place among the threads.
+    /// Returns how a thread looks after a line, by its index among the threads.
     pub fn look(&self, row: usize, lane: usize) -> Look {
         let at = row.saturating_mul(self.threads()).saturating_add(lane);
         match self.looks.get(at) {
@@ -293,7 +294,7 @@ impl Drawing {
         }
     }
 
-    /// Whether a core picks a thread after a line.
+    /// Returns whether a core picks a thread after a line.
     pub fn is_picked(&self, row: usize, thread: ObjId) -> bool {
         let cores = self.kernel.book().cores() as usize;
         for core in 0..cores {
@@ -312,7 +313,7 @@ impl Drawing {
         thread_of(lane.saturating_add(1).min(u32::MAX as usize) as u32)
     }
 
-    /// The lines of a window that are there.
+    /// Returns the part of a window whose lines exist; it may be empty.
     pub fn shown(&self, window: Window) -> Window {
         let last = window.last.min(self.lines());
         Window {

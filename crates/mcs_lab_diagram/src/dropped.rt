@@ -1,5 +1,5 @@
-//! Sends that reached nobody: over an endpoint where nobody receives, or over a reply object that
-//! owes nobody an answer.
+//! Sends that reached no thread: over an endpoint without receivers, or over a reply object that
+//! owes no reply.
 ghost use Rattle.std.specs.Prelude.{◌≡◌, IfOk};
 ghost use Rattle.mcs_lab_diagram.specs.Dropped.{accepts, accepts_none, is_dropped, is_passed, may_be_dropped};
 
@@ -8,7 +8,7 @@ use mcs_packing::KeptRecord;
 use mcs_types::{Answer, Entry, Rec};
 use std::alloc::{AllocError, Global};
 
-/// Returns whether an entry sends what may reach nobody. A call never does: its caller waits.
+/// Returns whether an entry may send without a receiver. A call never does: its caller waits.
 fn may_be_dropped(entry: &Entry) -> bool
     ensures { result ≡ may_be_dropped entry.now }
 {
@@ -78,7 +78,7 @@ fn accepts(fact: &Rec) -> bool
     }
 }
 
-/// Returns the same of a record where the book keeps it.
+/// Returns whether a packed record says that what a thread sent was accepted.
 fn kept_accepts(alloc: Global, kept: &KeptRecord<'_>) -> Result<bool, AllocError>
     ensures { IfOk result (λ b. b ≡ accepts kept.now) }
 {
@@ -88,7 +88,7 @@ fn kept_accepts(alloc: Global, kept: &KeptRecord<'_>) -> Result<bool, AllocError
     }
 }
 
-/// Returns whether the entry of a line sends what may reach nobody.
+/// Returns whether the entry of a line may send without a receiver.
 fn entry_may(alloc: Global, line: &Line<'_>) -> Result<bool, AllocError>
     ensures { IfOk result (λ b. b ≡ may_be_dropped line.now.step.entry) }
 {
@@ -108,7 +108,7 @@ fn line_passed(alloc: Global, line: &Line<'_>) -> Result<bool, AllocError>
     }
 }
 
-/// Returns whether no record of a line says that something was accepted.
+/// Returns whether no record of a line says that something sent was accepted.
 #[tactic(auto, using(crate::proofs::DroppedLaws::accepts_none_stops))]
 fn accepts_none(alloc: Global, line: &Line<'_>) -> Result<bool, AllocError>
     ensures { IfOk result (λ b. b ≡ accepts_none line.now.records) }
@@ -126,8 +126,8 @@ fn accepts_none(alloc: Global, line: &Line<'_>) -> Result<bool, AllocError>
     Ok(true)
 }
 
-/// Returns whether the entry of a line sent something that reached nobody: it was not refused, and
-/// no message, answer or signal was accepted.
+/// Returns whether the entry of a line sent something that reached no thread: it was not refused,
+/// and no message, reply or signal was accepted.
 pub fn is_dropped(alloc: Global, line: &Line<'_>) -> Result<bool, AllocError>
     ensures { IfOk result (λ b. b ≡ is_dropped line.now) }
 {

@@ -1,4 +1,4 @@
-//! What is drawn of a run: its arrows and its bars, as functions of the book.
+//! The drawing of a run: its arrows and its bars, as functions of the book.
 #![tactic(auto)]
 
 mod arrows;

@@ -1,4 +1,4 @@
-//! How threads look: what they do, and which context they hold.
+//! How threads look: their status, and which context they hold.
 ghost use Rattle.std.specs.Prelude.{◌≡◌, ◌++◌, OnOk};
 ghost use Rattle.mcs_book.specs.History.{log_of};
 ghost use Rattle.mcs_lab_diagram.specs.Looks.{look_of, looks_in, thread_of};
@@ -8,8 +8,8 @@ use mcs_queues::LinkedLines;
 use mcs_types::{Kind, ObjId, Status};
 use std::alloc::AllocError;
 
-/// How a thread looks in a row: what it does, and the context that it holds, whose colour its bar
-/// has.
+/// How a thread looks in a row: its status, and the context that it holds, which gives its bar the
+/// colour.
 #[derive(Clone, Copy, PartialEq, Eq, Debug)]
 pub struct Look {
     pub status: Option<Status>,
@@ -26,7 +26,7 @@ pub fn thread_of(serial: u32) -> ObjId
     }
 }
 
-/// How a thread looks now.
+/// Returns how a thread looks now.
 pub fn look_at(kernel: &Kernel<LinkedLines>, thread: ObjId) -> Look
     ensures { result ≡ look_of (log_of kernel.now) thread }
 {

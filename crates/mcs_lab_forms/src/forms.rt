@@ -1,9 +1,9 @@
-//! The forms of the lines, as they are shown, and by which their words are named.
+//! The forms of lines, as the programs show them; they also name the words of lines.
 use mcs_text::{Lines, Words};
 
-/// The forms of the lines of scripts and traces. Of a step it marks what names a capability of the
-/// thread's space: `@` an address, `%` an index that is before its depth. Words that end in `..`
-/// stand for all that follow.
+/// The forms of the lines of scripts and traces. In a step, `@` marks an address and `%` an index
+/// that its depth follows; both name a capability of the thread's space. A word that ends in `..`
+/// may repeat.
 pub const FORMS: &str = "\
 The boot:
   cores count
@@ -71,18 +71,18 @@ Records:
   + homed context notification
 ";
 
-/// The name of a word of a form.
+/// The name of a word in a form.
 #[derive(Clone, Copy)]
 pub struct Field<'a> {
-    /// What it names in the thread's space.
+    /// How it names something in the thread's space.
     pub looks_up: LooksUp,
-    /// Whether it stands for all words that follow.
+    /// Whether it may repeat to the end of the line.
     pub is_last: bool,
     pub name: &'a [u8],
 }
 
 impl<'a> Field<'a> {
-    /// Whether it names something in the thread's space.
+    /// Returns whether it names something in the thread's space.
     pub fn is_looked_up(&self) -> bool {
         self.looks_up != LooksUp::Nothing
     }
@@ -98,21 +98,21 @@ pub enum LooksUp {
     Place,
 }
 
-/// The words of a form that are left.
+/// The remaining words of a form.
 #[derive(Drop)]
 pub struct Fields<'a> {
     words: Words<'a>,
 }
 
 impl<'a> Fields<'a> {
-    /// No words.
+    /// Returns a form without words.
     pub fn none() -> Fields<'a> {
         let mut words = Words::new(b"");
         words.next_word();
         Fields { words }
     }
 
-    /// Returns the next, if there is one.
+    /// Returns the next word of the form, if there is one.
     pub fn next_field(&mut self) -> Option<Field<'a>> {
         let word = self.words.next_word()?;
         let (looks_up, word) = match word {
@@ -139,14 +139,14 @@ pub struct Forms {
 }
 
 impl Forms {
-    /// All of them.
+    /// Returns an iterator over all forms.
     pub fn new() -> Forms {
         Forms {
             lines: Lines::new(FORMS.as_bytes()),
         }
     }
 
-    /// Returns the next, if there is one.
+    /// Returns the next form, if there is one.
     fn next_form(&mut self) -> Option<&'static [u8]> {
         for _ in 0..FORMS.len() {
             if let [b' ', b' ', form @ ..] = self.lines.next_line()? {
@@ -168,7 +168,7 @@ impl Forms {
     }
 }
 
-/// The form that begins with a sign, if it has one, and a key.
+/// Returns the form with this key, and with this sign, if one is given.
 pub fn form_of(sign: Option<u8>, key: &[u8]) -> Option<Fields<'static>> {
     let mut forms = Forms::new();
     for _ in 0..FORMS.len() {
@@ -186,7 +186,7 @@ pub fn form_of(sign: Option<u8>, key: &[u8]) -> Option<Fields<'static>> {
     None
 }
 
-/// What two texts have after the bytes that are common at their front.
+/// Returns two texts without their common prefix.
 fn behind_common<'a>(first: &'a [u8], second: &'a [u8]) -> (&'a [u8], &'a [u8]) {
     let mut a = first;
     let mut b = second;
@@ -203,7 +203,7 @@ fn behind_common<'a>(first: &'a [u8], second: &'a [u8]) -> (&'a [u8], &'a [u8]) 
     (a, b)
 }
 
-/// What two texts have before the bytes that are common at their end.
+/// Returns two texts without their common suffix.
 fn before_common<'a>(first: &'a [u8], second: &'a [u8]) -> (&'a [u8], &'a [u8]) {
     let mut a = first;
     let mut b = second;
@@ -220,8 +220,8 @@ fn before_common<'a>(first: &'a [u8], second: &'a [u8]) -> (&'a [u8], &'a [u8]) 
     (a, b)
 }
 
-/// Whether two words differ in one letter that is other, missing or more, or in two that are
-/// exchanged.
+/// Returns whether two words differ in one letter that is changed, missing or extra, or in two that
+/// are swapped.
 fn is_near(a: &[u8], b: &[u8]) -> bool {
     let (a, b) = behind_common(a, b);
     match before_common(a, b) {
@@ -231,7 +231,7 @@ fn is_near(a: &[u8], b: &[u8]) -> bool {
     }
 }
 
-/// The key of a step or of a line of the boot that a word was meant to be; None where it is a key.
+/// Returns the key that a misspelled word of a step or of a boot line is near to; None for a key.
 pub fn meant_by(word: &[u8]) -> Option<&'static [u8]> {
     if word.len() < 3 || form_of(None, word).is_some() {
         return None;

@@ -1,4 +1,4 @@
-//! The forms of lines as they are shown, and the numbers in their words.
+//! The forms of lines, and the numbers in their words.
 #![tactic(auto)]
 
 mod forms;

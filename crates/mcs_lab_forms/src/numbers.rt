@@ -3,7 +3,7 @@ ghost use Rattle.std.specs.Prelude.{◌≡◌, ◌+◌, ◌-◌, ◌*◌};
 ghost use Rattle.mcs_text.specs.Reading.{all_digits, is_number, small, value};
 ghost use Rattle.mcs_lab_forms.specs.Numbers.{number_of};
 
-/// Returns the number after one digit more; None from 2^64 on.
+/// Returns a number with one more digit; None from 2^64 on.
 fn with_digit(n: u64, digit: u8) -> Option<u64>
     ensures { result ≡ small (10 * n + (digit - 48)) }
 {

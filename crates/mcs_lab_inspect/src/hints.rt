@@ -1,10 +1,10 @@
-//! What may have been meant by a line that has no form.
+//! Hints for a line that fits no form.
 use crate::page::Page;
 use mcs_lab_check::object_of;
 use mcs_lab_forms::{Field, Fields, form_of, meant_by, number_of};
 use mcs_text::Words;
 
-/// What is in the place of a word.
+/// What a form wants at a position.
 #[derive(Clone, Copy, PartialEq, Eq)]
 enum Wants {
     Number,
@@ -13,7 +13,7 @@ enum Wants {
     Word,
 }
 
-/// What is in the place that a form calls so.
+/// Returns what a form wants for a word with this name.
 fn wanted(name: &[u8], is_address: bool) -> Wants {
     if is_address {
         return Wants::Number;
@@ -25,7 +25,7 @@ fn wanted(name: &[u8], is_address: bool) -> Wants {
     }
 }
 
-/// Whether a word may be where this is wanted.
+/// Returns whether a word fits what is wanted.
 fn fits(word: &[u8], wants: Wants) -> bool {
     match wants {
         Wants::Number => number_of(word).is_some(),
@@ -34,7 +34,7 @@ fn fits(word: &[u8], wants: Wants) -> bool {
     }
 }
 
-/// What is wrong with a word by itself; None where nothing is to see.
+/// Returns what is wrong with a word by itself; None if nothing is.
 fn fault_of(word: &[u8]) -> Option<&'static [u8]> {
     match word {
         [] => Some(b" is empty: one space stands between two words\n".as_slice()),
@@ -46,13 +46,13 @@ fn fault_of(word: &[u8]) -> Option<&'static [u8]> {
     }
 }
 
-/// Puts the number of a word.
+/// Appends the number of a word.
 fn put_number(page: &mut Page, number: u64) {
     page.put(b"  word ");
     page.number(number);
 }
 
-/// Puts what is wrong with a word by itself. False where nothing is to see.
+/// Appends what is wrong with a word by itself. Returns false if nothing is.
 fn put_word_hint(page: &mut Page, number: u64, word: &[u8]) -> bool {
     match fault_of(word) {
         None => false,
@@ -64,7 +64,7 @@ fn put_word_hint(page: &mut Page, number: u64, word: &[u8]) -> bool {
     }
 }
 
-/// Puts which key was meant, where one is near.
+/// Appends which key was meant, if one is near.
 fn put_meant(page: &mut Page, number: u64, word: &[u8]) {
     put_number(page, number);
     page.put(b" \"");
@@ -79,7 +79,7 @@ fn put_meant(page: &mut Page, number: u64, word: &[u8]) {
     }
 }
 
-/// Puts that a word is missing or does not fit, and what is there.
+/// Appends that a word is missing or does not fit, and the word.
 fn put_unlike(page: &mut Page, number: u64, fault: &[u8], name: &[u8]) {
     put_number(page, number);
     page.put(fault);
@@ -87,8 +87,8 @@ fn put_unlike(page: &mut Page, number: u64, fault: &[u8], name: &[u8]) {
     page.put(b"\n");
 }
 
-/// Puts what is wrong with the word of this number, where it is one of the form's. True where no
-/// word after it is to be looked at.
+/// Appends what is wrong with the word of this number, if the form has one there. Returns true if
+/// no later word need be looked at.
 fn put_pair(page: &mut Page, number: u64, field: Field<'_>, word: Option<&[u8]>) -> bool {
     let Some(word) = word else {
         if !field.is_last {
@@ -106,7 +106,7 @@ fn put_pair(page: &mut Page, number: u64, field: Field<'_>, word: Option<&[u8]>)
     true
 }
 
-/// Puts the first word that a form does not allow.
+/// Appends the first word that a form does not allow.
 fn put_misfit(
     page: &mut Page,
     fields: &mut Fields<'_>,
@@ -135,7 +135,7 @@ fn put_misfit(
     }
 }
 
-/// Puts what may be wrong with the words after a key, the word of this number.
+/// Appends what may be wrong with the words after a key, which is the word of this number.
 fn put_key_hints(page: &mut Page, words: &mut Words<'_>, key: &[u8], number: u64, most: usize) {
     if put_word_hint(page, number, key) {
         return;
@@ -146,7 +146,7 @@ fn put_key_hints(page: &mut Page, words: &mut Words<'_>, key: &[u8], number: u64
     }
 }
 
-/// Puts what may be wrong with a step, after its core.
+/// Appends what may be wrong with a step, after its core.
 fn put_step_hints(page: &mut Page, words: &mut Words<'_>, most: usize) {
     let Some(thread) = words.next_word() else {
         return page.put(b"  word 2 is missing: the thread that enters\n");
@@ -160,7 +160,7 @@ fn put_step_hints(page: &mut Page, words: &mut Words<'_>, most: usize) {
     }
 }
 
-/// Puts what may be wrong with a line that has no form, or a number out of its range.
+/// Appends what may be wrong with a line that fits no form, or has a number out of range.
 pub fn put_hints(page: &mut Page, line: &[u8]) {
     let mut words = Words::new(line);
     let Some(first) = words.next_word() else {

@@ -13,7 +13,7 @@ use mcs_types::{ObjId, Queue};
 use std::alloc::{AllocError, Global};
 use std::io::{Read, Write};
 
-/// The form of a line, or that of no words.
+/// Returns the form of a line; an empty one if there is none.
 fn fields_of(sign: Option<u8>, key: &[u8]) -> Fields<'static> {
     match form_of(sign, key) {
         Some(fields) => fields,
@@ -21,7 +21,7 @@ fn fields_of(sign: Option<u8>, key: &[u8]) -> Fields<'static> {
     }
 }
 
-/// Puts an object of the words after a key, and of its kind, where it is reported.
+/// Appends as an object the words after a key, if they are of the reported kind.
 fn put_object<'a>(
     alloc: Global,
     page: &mut Page,
@@ -35,8 +35,8 @@ fn put_object<'a>(
     }
 }
 
-/// Puts a line of an answer or a record, with its sign: its word under `kind`, and the others under
-/// the names of its form.
+/// Appends a line of an answer or a record with this sign as an object: its key under `kind`, and
+/// the other words under the names of its form.
 fn put_line(alloc: Global, page: &mut Page, sign: u8, line: &[u8]) {
     let (_, Some(behind)) = split_word(line) else {
         return page.put(b"null");
@@ -57,7 +57,7 @@ fn put_line(alloc: Global, page: &mut Page, sign: u8, line: &[u8]) {
     );
 }
 
-/// Puts the thread that entered, with its name where it has one.
+/// Appends the thread that entered, with its name if it has one.
 fn put_thread(page: &mut Page, names: &Names, thread: &[u8]) {
     page.put(b",\"thread\":");
     page.quoted(thread);
@@ -66,7 +66,7 @@ fn put_thread(page: &mut Page, names: &Names, thread: &[u8]) {
     }
 }
 
-/// Puts the words of the line of a step.
+/// Appends the words of the line of a step.
 fn put_step(alloc: Global, page: &mut Page, names: &Names, step: &[u8]) {
     let (core, Some(behind)) = split_word(step) else {
         return;
@@ -84,7 +84,7 @@ fn put_step(alloc: Global, page: &mut Page, names: &Names, step: &[u8]) {
     put_object(alloc, page, &mut fields_of(None, key), None, text);
 }
 
-/// Returns the object that a word names, alone or by one of its queues, if it names one.
+/// Returns the object that a word names, directly or by one of its queues, if any.
 fn object_in(word: &[u8]) -> Option<ObjId> {
     match queue_of(word) {
         Some(Queue::Senders(object) | Queue::Receivers(object) | Queue::Waiters(object)) => {
@@ -94,14 +94,14 @@ fn object_in(word: &[u8]) -> Option<ObjId> {
     }
 }
 
-/// The objects that a line of a book names, each once, in the order in which they come.
+/// The objects that a line of a book names, each once, in order.
 #[derive(Drop)]
 struct Mentioned {
     objects: Vec<ObjId>,
 }
 
 impl Mentioned {
-    /// Adds an object, where it is not there.
+    /// Adds an object, if it is not in the list yet.
     fn add(&mut self, object: ObjId) -> Result<(), AllocError> {
         for other in self.objects.iter() {
             if other.is_same(object) {
@@ -126,7 +126,7 @@ impl Mentioned {
         Ok(())
     }
 
-    /// Puts the names of the objects as the last member of an object, and forgets them.
+    /// Appends the names of the objects as the last member of an object, and empties the list.
     fn put_names(&mut self, page: &mut Page, names: &Names) {
         let mut member = NamesMember::new(names, false);
         for object in self.objects.iter() {
@@ -137,7 +137,7 @@ impl Mentioned {
     }
 }
 
-/// A script whose book is written as JSON.
+/// The state of writing a script's book as JSON.
 #[derive(Drop)]
 struct Teller {
     judge: Judge,
@@ -147,8 +147,8 @@ struct Teller {
     page: Page,
 }
 
-/// Puts on the page the records of a line of a book as JSON, and notes the objects that they name.
-/// `before` is the number of messages that were sent before the line.
+/// Appends the records of a line of a book as JSON, and notes the objects that they name. `before`
+/// is the number of messages sent before the line.
 fn put_records(
     alloc: Global,
     page: &mut Page,
@@ -175,7 +175,8 @@ fn put_records(
 }
 
 impl Teller {
-    /// Of a script of which nothing is read. The judge is made last, so that no fault lets it go.
+    /// Returns the state before the first line. The judge is made last, so that no fault has to
+    /// drop it.
     fn new(alloc: Global, numbers: Numbers) -> Result<Teller, LabFault> {
         let spelled = Box::new(alloc, Line::new())?;
         let mut page = Page::new(alloc)?;
@@ -192,7 +193,7 @@ impl Teller {
         })
     }
 
-    /// Tells the last step, which was let in.
+    /// Appends the last step, which was accepted.
     fn tell(&mut self, alloc: Global) {
         let Some((line, before)) = self.judge.entered() else {
             return;
@@ -230,7 +231,7 @@ impl Teller {
     }
 }
 
-/// A script whose book is written as JSON.
+/// The reader of a script whose book is written as JSON.
 #[derive(Drop)]
 struct Writer<W> {
     teller: Teller,
@@ -248,7 +249,7 @@ impl<W: Write> TakesLines for Writer<W> {
     }
 }
 
-/// Writes what is reported of a script.
+/// Writes the JSON of a script to a writer.
 fn write_all<R: Read, W: Write>(
     alloc: Global,
     from: &mut Source<R>,
@@ -259,8 +260,8 @@ fn write_all<R: Read, W: Write>(
     Ok(true)
 }
 
-/// Writes an object for each line of the book of a script, each on a line of its own, with its
-/// numbers of up to 64 bits in this form.
+/// Writes a JSON object for each line of a script's book, one a line; `numbers` says how it writes
+/// numbers of up to 64 bits.
 pub fn write_json<R: Read, W: Write + Drop>(
     alloc: Global,
     from: &mut Source<R>,

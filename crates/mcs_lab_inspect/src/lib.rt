@@ -1,5 +1,5 @@
-//! What is reported of a script: why a step did nothing, what is stuck, the state of each thread,
-//! and its book as JSON. It only writes.
+//! Reports on a script: why a step did nothing, what is stuck, the state of each thread, and its
+//! book as JSON.
 #![tactic(auto)]
 
 mod hints;

@@ -4,7 +4,7 @@ use mcs_lab_forms::{Field, Fields, number_of};
 use mcs_text::Words;
 use std::alloc::Global;
 
-/// A member: its name, and the words of its value.
+/// A member of a JSON object: its name, and the words of its value.
 #[derive(Clone, Copy)]
 pub struct Member<'a> {
     pub name: &'static [u8],
@@ -16,8 +16,8 @@ pub struct Member<'a> {
 }
 
 /// Returns whether the numbers of a field have up to 64 bits: those of an address, of an index with
-/// a depth, of a badge, and of a word of a message or a notification. A label has 52, any other
-/// number 8.
+/// a depth, of a badge, and of a word of a message or a notification. A label has 52 bits, any
+/// other number fewer.
 fn is_wide(field: &Field<'_>) -> bool {
     field.is_looked_up()
         || field.name == b"badge".as_slice()
@@ -25,7 +25,7 @@ fn is_wide(field: &Field<'_>) -> bool {
         || field.name == b"words".as_slice()
 }
 
-/// Whether a name is before another.
+/// Returns whether a name sorts before another.
 fn is_before(name: &[u8], other: &[u8]) -> bool {
     for i in 0..name.len().min(other.len()) {
         if name[i] != other[i] {
@@ -35,7 +35,7 @@ fn is_before(name: &[u8], other: &[u8]) -> bool {
     name.len() < other.len()
 }
 
-/// The member whose name comes next after a name.
+/// Returns the member whose name sorts next after a name.
 fn next_behind<'a>(members: &[Member<'a>], name: &[u8]) -> Option<Member<'a>> {
     let mut next: Option<Member<'a>> = None;
     for member in members {
@@ -50,7 +50,7 @@ fn next_behind<'a>(members: &[Member<'a>], name: &[u8]) -> Option<Member<'a>> {
     next
 }
 
-/// Puts a word, or words that are one: a number, which may be wide, `null` for a dash, or a text.
+/// Appends a value of one word: a number, which may be wide, `null` for a dash, or a text.
 pub fn put_value(page: &mut Page, text: &[u8], is_wide: bool) {
     if text == b"-".as_slice() {
         return page.put(b"null");
@@ -62,7 +62,7 @@ pub fn put_value(page: &mut Page, text: &[u8], is_wide: bool) {
     }
 }
 
-/// Puts words as a list.
+/// Appends words as a list.
 fn put_list(page: &mut Page, text: &[u8], is_wide: bool) {
     page.put(b"[");
     let mut words = Words::new(text);
@@ -76,7 +76,7 @@ fn put_list(page: &mut Page, text: &[u8], is_wide: bool) {
     page.put(b"]");
 }
 
-/// Puts a member, after others or as the first.
+/// Appends a member, with a comma unless it is the first.
 fn put_member(page: &mut Page, member: Member<'_>, is_first: bool) {
     page.between(is_first);
     page.quoted(member.name);
@@ -88,7 +88,7 @@ fn put_member(page: &mut Page, member: Member<'_>, is_first: bool) {
     }
 }
 
-/// Puts an object of these members.
+/// Appends an object of these members.
 pub fn put_members(page: &mut Page, members: &[Member<'_>]) {
     page.put(b"{");
     let mut before = b"".as_slice();
@@ -102,8 +102,8 @@ pub fn put_members(page: &mut Page, members: &[Member<'_>]) {
     page.put(b"}");
 }
 
-/// Returns the words of a text as members under the names of a form, and those that have none under
-/// `more`. None where memory is refused.
+/// Returns the words of a text as members under the names of a form, and the rest under `more`.
+/// None if an allocation fails.
 pub fn members_of<'a>(
     alloc: Global,
     kind: Option<Member<'a>>,
@@ -120,7 +120,7 @@ pub fn members_of<'a>(
         return Some(members);
     };
     let mut rest = text;
-    // each turn but the last takes a word
+    // each round but the last takes a word
     for _ in 0..=text.len() {
         let (member, behind) = member_of(fields, rest);
         if members.push(member).is_err() {

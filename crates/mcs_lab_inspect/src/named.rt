@@ -15,7 +15,8 @@ pub const KINDS: &[Kind] = &[
     Kind::Thread,
 ];
 
-/// The member as far as it is put: there is none where no object has a name.
+/// The member with the names of objects, as far as it is written; there is none if no object has a
+/// name.
 #[derive(Drop)]
 pub struct NamesMember<'a> {
     names: &'a Names,
@@ -24,7 +25,7 @@ pub struct NamesMember<'a> {
 }
 
 impl<'a> NamesMember<'a> {
-    /// Returns a member that is not begun: the first of its object, or one behind others.
+    /// Returns an empty member, the first of its object or a later one.
     pub fn new(names: &'a Names, is_first: bool) -> NamesMember<'a> {
         NamesMember {
             names,
@@ -33,7 +34,7 @@ impl<'a> NamesMember<'a> {
         }
     }
 
-    /// Puts the beginning of the member, or what is between two names.
+    /// Appends the beginning of the member, or the separator between two names.
     fn put_between(&mut self, page: &mut Page) {
         if self.is_begun {
             return page.put(b",");
@@ -43,7 +44,7 @@ impl<'a> NamesMember<'a> {
         self.is_begun = true;
     }
 
-    /// Puts the name of an object under its id, where it has one.
+    /// Appends the name of an object under its id, if it has one.
     pub fn put(&mut self, page: &mut Page, object: ObjId) {
         let names = self.names;
         let Some(name) = names.of(object) else {
@@ -55,14 +56,14 @@ impl<'a> NamesMember<'a> {
         page.quoted(name);
     }
 
-    /// Puts the names of the first objects of a kind, so many.
+    /// Appends the names of the first `count` objects of a kind.
     pub fn put_kind(&mut self, page: &mut Page, kind: Kind, count: u32) {
         for serial in 1..=count {
             self.put(page, object(kind, serial));
         }
     }
 
-    /// Puts the end of the member where it is begun. Returns whether there is a member.
+    /// Appends the end of the member if it was begun. Returns whether there is a member.
     pub fn end(&self, page: &mut Page) -> bool {
         if self.is_begun {
             page.put(b"}");

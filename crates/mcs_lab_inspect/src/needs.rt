@@ -1,4 +1,4 @@
-//! What a thread needs that another one does, before it goes on.
+//! Which capabilities let another thread unblock a thread.
 use crate::spaces::{CNodes, Sought, Spaces, object};
 use mcs_book::Book;
 use mcs_kernel::Kernel;
@@ -6,16 +6,17 @@ use mcs_queues::LinkedLines;
 use mcs_types::{Entry, Kind, ObjId, OutOfMemory, Queue, Status, ThreadSet};
 use std::alloc::Global;
 
-/// Of a thread that may not enter: which CNodes hold a capability by which another thread may let
-/// it go on.
+/// For a thread that may not enter: which CNodes hold a capability by which another thread may
+/// unblock it.
 #[derive(Clone, Copy)]
 pub struct Need {
-    /// By which it goes on.
+    /// With these capabilities it continues.
     by: CNodes,
-    /// By which it is only made to give its entry again, which is blocked as before where its space
-    /// has not changed.
+    /// With these capabilities it only retries its entry, which blocks as before unless its space
+    /// has changed.
     again: CNodes,
-    /// To what it is blocked on, each: it goes on where that is deleted.
+    /// With these capabilities the object that it is blocked on can be deleted, which lets it
+    /// continue.
     named: CNodes,
 }
 
@@ -36,8 +37,7 @@ fn sent_over(alloc: Global, book: &Book, thread: ObjId) -> Result<Option<u64>, O
     Ok(None)
 }
 
-/// Whether the entry of a thread that is queued among the senders of an endpoint would be sent
-/// there again.
+/// Returns whether the entry of a queued sender would be sent to the same endpoint again.
 fn sends_again(
     alloc: Global,
     kernel: &Kernel<LinkedLines>,
@@ -54,7 +54,7 @@ fn sends_again(
 }
 
 impl Need {
-    /// Of a thread that others let go on by a capability to itself alone.
+    /// Returns the need of a thread that only a capability to itself unblocks.
     fn new(kernel: &Kernel<LinkedLines>, thread: ObjId) -> Need {
         Need {
             by: Sought::Any(thread).holders(kernel),
@@ -63,19 +63,19 @@ impl Need {
         }
     }
 
-    /// Adds the CNodes that hold what is sought to those by which the thread goes on.
+    /// Adds the CNodes that hold the sought capability to those that let the thread continue.
     fn or(mut self, kernel: &Kernel<LinkedLines>, sought: Sought) -> Need {
         self.by.add(sought.holders(kernel));
         self
     }
 
-    /// With that on which the thread is blocked.
+    /// Sets the object on which the thread is blocked.
     fn blocked_on(mut self, kernel: &Kernel<LinkedLines>, place: ObjId) -> Need {
         self.named = Sought::Any(place).holders(kernel);
         self
     }
 
-    /// What a thread among the senders of an endpoint needs.
+    /// Returns what a queued sender of an endpoint needs.
     fn of_sender(
         alloc: Global,
         kernel: &Kernel<LinkedLines>,
@@ -90,7 +90,7 @@ impl Need {
         Ok(need.or(kernel, Sought::ToRead(endpoint)))
     }
 
-    /// What a thread needs now, if it may not enter.
+    /// Returns what a thread needs now, if it may not enter.
     pub fn of(
         alloc: Global,
         kernel: &Kernel<LinkedLines>,
@@ -120,21 +120,21 @@ impl Need {
         }
     }
 
-    /// Whether threads whose spaces have these CNodes may let a thread go on whose space has those
-    /// of its own.
+    /// Returns whether threads with the CNodes `theirs` in their spaces may unblock a thread with
+    /// the CNodes `own`.
     fn is_met(self, own: CNodes, theirs: CNodes) -> bool {
         theirs.meets(self.by)
             || theirs.meets(self.again) && theirs.meets(own)
             || !self.named.is_empty() && self.named.is_within(theirs)
     }
 
-    /// Whether a thread with such a space may let it go on at once.
+    /// Returns whether a thread with such a space may unblock it at once.
     pub fn is_met_by(self, space: CNodes) -> bool {
         space.meets(self.by)
     }
 }
 
-/// Whether a thread may enter on some core.
+/// Returns whether a thread may enter on some core.
 pub fn may_enter(kernel: &Kernel<LinkedLines>, thread: ObjId) -> bool {
     match kernel.status(thread) {
         Some(Status::Running | Status::Restart) => kernel.context(thread).is_some(),
@@ -149,7 +149,7 @@ pub struct Needs {
 }
 
 impl Needs {
-    /// Those of a kernel.
+    /// Returns the needs of all threads of a kernel.
     pub fn new(alloc: Global, kernel: &Kernel<LinkedLines>) -> Result<Needs, OutOfMemory> {
         let mut needs = Vec::new(alloc);
         for serial in 1..=kernel.made(Kind::Thread) {
@@ -161,12 +161,13 @@ impl Needs {
         Ok(Needs { needs })
     }
 
-    /// That of a thread.
+    /// Returns the need of a thread.
     pub fn of(&self, thread: ObjId) -> Option<Need> {
         Some(*self.needs.get(thread.place(Kind::Thread)?)?)
     }
 
-    /// Whether a thread may enter now, or threads whose spaces have these CNodes may let it go on.
+    /// Returns whether a thread may enter now, or threads with these CNodes in their spaces may
+    /// unblock it.
     fn is_free(
         &self,
         kernel: &Kernel<LinkedLines>,
@@ -182,13 +183,13 @@ impl Needs {
         }
     }
 
-    /// The threads that may enter some time: those that may now, and all that they may let go on,
+    /// Returns the threads that may ever enter: those that may now, and all that these can unblock,
     /// by any capability in the spaces of all of them.
     pub fn free(&self, kernel: &Kernel<LinkedLines>, spaces: &Spaces) -> ThreadSet {
         let mut free = ThreadSet::new();
         let mut theirs = CNodes::new();
         let count = kernel.made(Kind::Thread);
-        // each turn but the last finds a thread more
+        // each round but the last finds another thread
         for _ in 0..=count {
             for serial in 1..=count {
                 let thread = object(Kind::Thread, serial);

@@ -1,4 +1,4 @@
-//! A text to be written, put together in memory.
+//! A text buffer for reports.
 use mcs_lab_check::{LabFault, Names, put_shown};
 use mcs_text::Token;
 use mcs_trace::{Line, spell};
@@ -6,15 +6,15 @@ use mcs_types::{ObjId, Queue};
 use std::alloc::{AllocError, Global};
 use std::io::Write;
 
-/// How JSON has numbers of up to 64 bits, of which JavaScript rounds those above 2^53.
+/// How JSON writes numbers of up to 64 bits; JavaScript rounds those above 2^53.
 #[derive(Clone, Copy, PartialEq, Eq)]
 pub enum Numbers {
     Integers,
     Texts,
 }
 
-/// What was put and is not written yet. Where memory is refused the rest is left out and nothing is
-/// written any more, so the code that puts the text together need not ask.
+/// A text buffer. After a failed allocation it ignores all that is appended and writes nothing any
+/// more, so callers need not check each append.
 #[derive(Drop)]
 pub struct Page {
     text: Vec<u8>,
@@ -23,13 +23,13 @@ pub struct Page {
     is_cut: bool,
 }
 
-/// Returns whether a byte stands for itself in a text of JSON.
+/// Returns whether a byte needs no escape in a JSON text.
 fn is_plain(byte: u8) -> bool {
     byte >= b' ' && byte <= b'~' && byte != b'"' && byte != b'\\'
 }
 
 impl Page {
-    /// Returns an empty text. AllocError where memory was refused.
+    /// Returns an empty text. `AllocError` if an allocation fails.
     pub fn new(alloc: Global) -> Result<Page, AllocError> {
         Ok(Page {
             text: Vec::new(alloc),
@@ -39,31 +39,31 @@ impl Page {
         })
     }
 
-    /// Sets how `wide` puts numbers from now on: at first as integers.
+    /// Sets how `wide` appends numbers; at first as integers.
     pub fn set_numbers(&mut self, numbers: Numbers) {
         self.numbers = numbers;
     }
 
-    /// Says that memory was refused.
+    /// Marks the buffer as incomplete: an allocation failed.
     pub fn cut(&mut self) {
         self.is_cut = true;
     }
 
-    /// Puts bytes.
+    /// Appends bytes.
     pub fn put(&mut self, bytes: &[u8]) {
         if self.text.extend_from_slice(bytes).is_err() {
             self.is_cut = true;
         }
     }
 
-    /// Puts bytes of the input as messages show them: each that is no printable ASCII as `\x1b`.
+    /// Appends bytes of the input as messages show them: unprintable ones as `\x1b`.
     pub fn shown(&mut self, bytes: &[u8]) {
         if put_shown(&mut self.text, bytes).is_err() {
             self.is_cut = true;
         }
     }
 
-    /// Puts a word as traces spell it.
+    /// Appends a word as traces spell it.
     pub fn word(&mut self, token: &Token) {
         spell(&mut self.word, token);
         if self.text.extend_from_slice(self.word.text()).is_err() {
@@ -71,12 +71,12 @@ impl Page {
         }
     }
 
-    /// Puts a number.
+    /// Appends a number.
     pub fn number(&mut self, number: u64) {
         self.word(&Token::Number(number));
     }
 
-    /// Puts a text that was made, where there was memory for it.
+    /// Appends a text that was made, if its allocation did not fail.
     pub fn made(&mut self, text: Result<String, AllocError>) {
         match text {
             Ok(text) => self.put(text.as_bytes()),
@@ -84,12 +84,12 @@ impl Page {
         }
     }
 
-    /// Puts a count.
+    /// Appends a count.
     pub fn count(&mut self, count: usize) {
         self.number(count as u64);
     }
 
-    /// Puts how many there are of something: `1 step`, `2 steps`.
+    /// Appends a count with its noun: `1 step`, `2 steps`.
     pub fn counted(&mut self, count: usize, noun: &str) {
         self.count(count);
         self.put(b" ");
@@ -99,15 +99,15 @@ impl Page {
         }
     }
 
-    /// Puts the number of a byte that is no printable character, as JSON has it.
+    /// Appends the escape of an unprintable byte in JSON.
     fn put_code(&mut self, byte: u8) {
         if write!(&mut self.text, "\\u{byte:04x}").is_err() {
             self.is_cut = true;
         }
     }
 
-    /// Puts a text as JSON has it between quotes: a quote and a backslash behind a backslash, and
-    /// what is no printable character by its number.
+    /// Appends a text as JSON has it in quotes: a backslash before quotes and backslashes, and
+    /// escapes for unprintable characters.
     pub fn escaped(&mut self, text: &[u8]) {
         if text.iter().all(|byte| is_plain(*byte)) {
             return self.put(text);
@@ -121,7 +121,7 @@ impl Page {
         }
     }
 
-    /// Puts the name of an object between parentheses, where it has one.
+    /// Appends the name of an object in parentheses, if it has one.
     fn name(&mut self, names: &Names, object: ObjId) {
         if let Some(name) = names.of(object) {
             self.put(b" (");
@@ -130,13 +130,13 @@ impl Page {
         }
     }
 
-    /// Puts an object, with its name where it has one: `t1 (client)`.
+    /// Appends an object, with its name where it has one: `t1 (client)`.
     pub fn object(&mut self, names: &Names, object: ObjId) {
         self.word(&Token::Name(object));
         self.name(names, object);
     }
 
-    /// Puts a queue, with the name of its object where it has one.
+    /// Appends a queue, with the name of its object where it has one.
     pub fn queue(&mut self, names: &Names, queue: Queue) {
         self.word(&Token::Line(queue));
         match queue {
@@ -146,7 +146,7 @@ impl Page {
         }
     }
 
-    /// Returns what was put and is not written yet. OutOfMemory where memory was refused.
+    /// Returns what was appended since the last write. `OutOfMemory` if an allocation failed.
     pub fn text(&self) -> Result<&[u8], LabFault> {
         if self.is_cut {
             return Err(LabFault::OutOfMemory);
@@ -154,7 +154,7 @@ impl Page {
         Ok(self.text.as_slice())
     }
 
-    /// Writes what was put, and begins anew.
+    /// Writes what was appended, and empties the buffer.
     pub fn write<W: Write>(&mut self, to: &mut W) -> Result<(), LabFault> {
         if self.is_cut {
             return Err(LabFault::OutOfMemory);
@@ -165,23 +165,23 @@ impl Page {
     }
 }
 
-/// What JSON is made of.
+/// Appends the parts of a JSON text. A later member is one that is not the first of its object.
 impl Page {
-    /// Puts a text between quotes.
+    /// Appends a text between quotes.
     pub fn quoted(&mut self, text: &[u8]) {
         self.put(b"\"");
         self.escaped(text);
         self.put(b"\"");
     }
 
-    /// Puts a word of traces between quotes.
+    /// Appends a word of traces between quotes.
     pub fn quoted_word(&mut self, token: &Token) {
         self.put(b"\"");
         self.word(token);
         self.put(b"\"");
     }
 
-    /// Puts a number of a kind that has up to 64 bits.
+    /// Appends a number of a kind that has up to 64 bits.
     pub fn wide(&mut self, number: u64) {
         match self.numbers {
             Numbers::Integers => self.number(number),
@@ -189,7 +189,7 @@ impl Page {
         }
     }
 
-    /// Puts an object, or `null`.
+    /// Appends an object, or `null`.
     pub fn maybe(&mut self, object: Option<ObjId>) {
         match object {
             Some(object) => self.quoted_word(&Token::Name(object)),
@@ -197,40 +197,40 @@ impl Page {
         }
     }
 
-    /// Puts what is before an item that is not the first.
+    /// Appends the separator before an item, unless it is the first.
     pub fn between(&mut self, is_first: bool) {
         if !is_first {
             self.put(b",");
         }
     }
 
-    /// Puts the name of a member that is not the first, up to its value.
+    /// Appends the name of a later member, up to its value.
     pub fn key(&mut self, name: &str) {
         self.put(b",\"");
         self.put(name.as_bytes());
         self.put(b"\":");
     }
 
-    /// Puts a member that is not the first, whose value is a text.
+    /// Appends a later member whose value is a text.
     pub fn text_member(&mut self, name: &str, text: &[u8]) {
         self.key(name);
         self.quoted(text);
     }
 
-    /// Puts a member that is not the first, whose value is a count.
+    /// Appends a later member whose value is a count.
     pub fn count_member(&mut self, name: &str, count: usize) {
         self.key(name);
         self.count(count);
     }
 
-    /// Puts a member that is not the first, whose value is true or false.
+    /// Appends a later member whose value is true or false.
     pub fn flag_member(&mut self, name: &str, flag: bool) {
         let word = if flag { "true" } else { "false" };
         self.key(name);
         self.put(word.as_bytes());
     }
 
-    /// Puts the name of an object as a member that is not the first, where it has one.
+    /// Appends the name of an object as a later member, if it has one.
     pub fn name_member(&mut self, names: &Names, object: ObjId) {
         if let Some(name) = names.of(object) {
             self.text_member("name", name);

@@ -1,11 +1,11 @@
-//! Where an address leads, in words.
+//! The path of lookup for an address, in words.
 use crate::page::Page;
 use mcs_kernel::Kernel;
 use mcs_lab_check::Names;
 use mcs_queues::LinkedLines;
 use mcs_types::{Cap, Kind};
 
-/// So many bits of a number, after which so many others are.
+/// Returns `count` bits of a number, above its low `behind` bits.
 fn bits_of(number: u64, count: u32, behind: u32) -> u64 {
     let shifted = number.checked_shr(behind).unwrap_or(0);
     match 1u64.checked_shl(count) {
@@ -14,21 +14,21 @@ fn bits_of(number: u64, count: u32, behind: u32) -> u64 {
     }
 }
 
-/// A CNode at which lookup has come, and how many bits of the address are left there.
+/// A CNode that lookup has reached, and how many bits of the address are left there.
 #[derive(Clone, Copy)]
 struct Level {
     cap: Cap,
     left: u32,
 }
 
-/// Puts that the guard of a level is another.
+/// Appends that the guard of a level does not match.
 fn put_guard(page: &mut Page, guard: u32) {
     page.put(b", whose guard of ");
     page.number(guard as u64);
     page.put(b" bits is another");
 }
 
-/// Puts that too few bits are left for the index of a level.
+/// Appends that too few bits are left for the index of a level.
 fn put_radix(page: &mut Page, radix: u32, behind: u32) {
     page.put(b", whose index has ");
     page.number(radix as u64);
@@ -37,8 +37,8 @@ fn put_radix(page: &mut Page, radix: u32, behind: u32) {
     page.put(b" are left");
 }
 
-/// Puts the slot that lookup takes at a level, and what holds it up there; the level after it, if
-/// lookup goes on.
+/// Appends the slot that lookup takes at a level, and why it stops there, if it does. Returns the
+/// next level, if lookup continues.
 fn put_slot(page: &mut Page, index: u64, held: Option<Cap>, left: u32) -> Option<Level> {
     page.put(b" ");
     page.number(index);
@@ -59,8 +59,8 @@ fn put_slot(page: &mut Page, index: u64, held: Option<Cap>, left: u32) -> Option
     }
 }
 
-/// Puts the slot that lookup takes at a level, or why it takes none; the level after it, if lookup
-/// goes on.
+/// Appends the slot that lookup takes at a level, or why it takes none. Returns the next level, if
+/// lookup continues.
 fn put_level(
     page: &mut Page,
     kernel: &Kernel<LinkedLines>,
@@ -90,7 +90,7 @@ fn put_level(
     put_slot(page, index, held, left)
 }
 
-/// Puts the slots that lookup passes from a root on, and where it ends: `(c1 3, c2 1 is empty)`.
+/// Appends the slots that lookup passes from a root, and where it ends: `(c1 3, c2 1 is empty)`.
 pub fn put_path(
     page: &mut Page,
     kernel: &Kernel<LinkedLines>,

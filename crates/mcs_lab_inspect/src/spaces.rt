@@ -1,4 +1,4 @@
-//! To which CNodes the capability spaces of threads lead, and which CNodes hold a capability.
+//! Which CNodes the capability spaces of threads contain, and which CNodes hold a capability.
 use mcs_kernel::Kernel;
 use mcs_queues::LinkedLines;
 use mcs_types::{Cap, Kind, ObjId};
@@ -12,14 +12,14 @@ pub fn object(kind: Kind, serial: u32) -> ObjId {
 /// How many CNodes there are at most.
 const MOST: usize = 64;
 
-/// Some CNodes, a bit for each.
+/// A set of CNodes, one bit for each.
 #[derive(Clone, Copy, PartialEq, Eq)]
 pub struct CNodes {
     bits: u64,
 }
 
 impl CNodes {
-    /// No CNode.
+    /// Returns the empty set.
     pub fn new() -> CNodes {
         CNodes { bits: 0 }
     }
@@ -37,33 +37,33 @@ impl CNodes {
         self.bits |= CNodes::bit(cnode);
     }
 
-    /// Adds all of others.
+    /// Adds all of another set.
     pub fn add(&mut self, others: CNodes) {
         self.bits |= others.bits;
     }
 
-    /// Whether a CNode is one of them.
+    /// Returns whether a CNode is one of them.
     pub fn contains(self, cnode: ObjId) -> bool {
         self.bits & CNodes::bit(cnode) != 0
     }
 
-    /// Whether there is none.
+    /// Returns whether the set is empty.
     pub fn is_empty(self) -> bool {
         self.bits == 0
     }
 
-    /// Whether one is also among others.
+    /// Returns whether both sets have a common CNode.
     pub fn meets(self, others: CNodes) -> bool {
         self.bits & others.bits != 0
     }
 
-    /// Whether all are among others.
+    /// Returns whether all its CNodes are in another set.
     pub fn is_within(self, others: CNodes) -> bool {
         self.bits & !others.bits == 0
     }
 }
 
-/// A capability that is looked for: to which object, and what it has to allow.
+/// A capability that is sought: to which object, and which rights it must have.
 #[derive(Clone, Copy)]
 pub enum Sought {
     Any(ObjId),
@@ -72,7 +72,7 @@ pub enum Sought {
 }
 
 impl Sought {
-    /// Whether a capability is one of these.
+    /// Returns whether a capability is the sought one.
     fn is(self, cap: &Cap) -> bool {
         match self {
             Sought::Any(object) => cap.obj.is_same(object),
@@ -81,7 +81,7 @@ impl Sought {
         }
     }
 
-    /// Whether a slot of a CNode holds one.
+    /// Returns whether a slot of a CNode holds the sought capability.
     fn is_in(self, kernel: &Kernel<LinkedLines>, cnode: ObjId) -> bool {
         for index in 0..=u8::MAX {
             if let Some(cap) = kernel.capability(cnode, index)
@@ -93,7 +93,7 @@ impl Sought {
         false
     }
 
-    /// The CNodes that hold one.
+    /// Returns the CNodes that hold the sought capability.
     pub fn holders(self, kernel: &Kernel<LinkedLines>) -> CNodes {
         let mut cnodes = CNodes::new();
         for serial in 1..=kernel.made(Kind::CNode) {
@@ -106,7 +106,7 @@ impl Sought {
     }
 }
 
-/// The CNodes to which the slots of a CNode lead.
+/// Returns the CNodes to which slots of a CNode hold capabilities.
 fn next(kernel: &Kernel<LinkedLines>, cnode: ObjId) -> CNodes {
     let mut cnodes = CNodes::new();
     for index in 0..=u8::MAX {
@@ -117,7 +117,7 @@ fn next(kernel: &Kernel<LinkedLines>, cnode: ObjId) -> CNodes {
     cnodes
 }
 
-/// The CNodes of a space: its root, and all to which they lead, whatever the guards.
+/// Returns the CNodes of a space: its root, and all reachable from it, whatever the guards.
 fn space(kernel: &Kernel<LinkedLines>, root: ObjId) -> CNodes {
     let mut cnodes = CNodes::new();
     cnodes.insert(root);
@@ -144,7 +144,7 @@ pub struct Spaces {
 }
 
 impl Spaces {
-    /// Those of a kernel.
+    /// Returns the spaces of all threads of a kernel.
     pub fn new(alloc: Global, kernel: &Kernel<LinkedLines>) -> Result<Spaces, AllocError> {
         let mut spaces = Vec::new(alloc);
         for serial in 1..=kernel.made(Kind::Thread) {

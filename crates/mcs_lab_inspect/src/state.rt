@@ -10,8 +10,8 @@ use mcs_sim::Source;
 use std::alloc::Global;
 use std::io::{Read, Write};
 
-/// Of a state: after which line, whether only what is stuck is shown, and whether it is written as
-/// JSON, with which form of numbers.
+/// What `mcslab state` shows: after which line, whether only stuck threads, and whether as JSON,
+/// with which form of numbers.
 #[derive(Clone, Copy)]
 pub struct Wanted {
     pub at: Option<u64>,
@@ -29,7 +29,7 @@ struct Reader {
 }
 
 impl Reader {
-    /// Whether the lines that are wanted were taken.
+    /// Returns whether the wanted lines were read.
     fn is_done(&self) -> bool {
         match self.at {
             Some(at) => self.judge.line() >= at,
@@ -37,7 +37,7 @@ impl Reader {
         }
     }
 
-    /// Returns the fault that the wanted line is beyond the end, where it is.
+    /// Returns the fault that the wanted line is beyond the end, if it is.
     fn missing(&self) -> Option<LabFault> {
         let line = self.at?;
         let count = self.judge.line();
@@ -64,7 +64,8 @@ impl TakesLines for Reader {
     }
 }
 
-/// Puts what is wanted of a state. False where only what is stuck is wanted, and something is.
+/// Appends what is wanted of a state. Returns false if only stuck threads are wanted, and there are
+/// some.
 fn put_state(
     page: &mut Page,
     kernel: &Kernel<LinkedLines>,
@@ -82,8 +83,8 @@ fn put_state(
     waits.put(page, kernel, names) || !wanted.stuck
 }
 
-/// Reads a script as far as is wanted, and puts what is wanted of its state. False where only what
-/// is stuck is wanted, and something is.
+/// Reads a script up to the wanted line, and appends what is wanted of its state. Returns false if
+/// only stuck threads are wanted, and there are some.
 fn read_state<R: Read>(
     alloc: Global,
     from: &mut Source<R>,
@@ -103,9 +104,9 @@ fn read_state<R: Read>(
     Ok(put_state(page, kernel, &reader.names, &waits, wanted))
 }
 
-/// Shows the state of each thread after a line of a script, or at its end, and what is stuck. False
-/// where only what is stuck is wanted, and something is. Fault NoLine where the line is beyond
-/// the end.
+/// Shows the state of each thread after a line of a script, or at its end, and what is stuck.
+/// Returns false if only stuck threads are wanted, and there are some. Fault `NoLine` if the line
+/// is beyond the end.
 pub fn show_state<R: Read, W: Write + Drop>(
     alloc: Global,
     from: &mut Source<R>,

@@ -9,8 +9,8 @@ use mcs_queues::LinkedLines;
 use mcs_types::{Kind, ObjId, OutOfMemory, Queue, Rec, Status, ThreadSet};
 use std::alloc::Global;
 
-/// The thread that took the call for which a reply object owed last: the one that received in the
-/// same line.
+/// Returns the thread that took the call of a reply object's last debt: the one that received in
+/// the same line.
 pub fn taker_of(alloc: Global, book: &Book, reply: ObjId) -> Result<Option<ObjId>, OutOfMemory> {
     for number in (1..book.lines()).rev() {
         let Some(line) = book.line(number) else {
@@ -32,7 +32,7 @@ pub fn taker_of(alloc: Global, book: &Book, reply: ObjId) -> Result<Option<ObjId
     Ok(None)
 }
 
-/// The thread that begins to receive on an endpoint by a record.
+/// Returns the thread that joins the receivers of an endpoint by a record.
 fn receiver_of(record: Option<Rec>, endpoint: ObjId) -> Option<ObjId> {
     match record {
         Some(
@@ -46,7 +46,7 @@ fn receiver_of(record: Option<Rec>, endpoint: ObjId) -> Option<ObjId> {
     }
 }
 
-/// Adds the threads that received on an endpoint in some line, but for one.
+/// Adds the threads that received on an endpoint in some line, except one.
 fn add_receivers(
     alloc: Global,
     book: &Book,
@@ -69,8 +69,8 @@ fn add_receivers(
     Ok(())
 }
 
-/// The threads that are likely to let a thread continue: the one that took its call, or those that
-/// received on the endpoint before.
+/// Returns the threads that are likely to unblock a thread: the one that took its call, or those
+/// that received on the endpoint before.
 fn likely(
     alloc: Global,
     kernel: &Kernel<LinkedLines>,
@@ -91,7 +91,7 @@ fn likely(
     Ok(set)
 }
 
-/// Whether a thread waits: it is blocked, or it runs and holds no context.
+/// Returns whether a thread waits: it is blocked, or it runs without a context.
 fn is_waiting(kernel: &Kernel<LinkedLines>, thread: ObjId) -> bool {
     match kernel.status(thread) {
         Some(Status::Queued(_) | Status::OnReply(_)) => true,
@@ -100,7 +100,7 @@ fn is_waiting(kernel: &Kernel<LinkedLines>, thread: ObjId) -> bool {
     }
 }
 
-/// What joins the reason why a thread waits to those that it waits for.
+/// Returns the words between the reason why a thread waits and the threads that it waits for.
 fn so(status: Option<Status>) -> &'static str {
     match status {
         Some(Status::OnReply(_)) => ", and so for ",
@@ -108,7 +108,7 @@ fn so(status: Option<Status>) -> &'static str {
     }
 }
 
-/// What nobody can do for a thread that waits for nobody.
+/// Returns the words for a thread that no other can unblock.
 fn nobody(status: Option<Status>) -> &'static str {
     match status {
         Some(Status::OnReply(_)) => ", and nobody can give it",
@@ -121,7 +121,7 @@ fn nobody(status: Option<Status>) -> &'static str {
     }
 }
 
-/// The threads that wait, and what each waits for.
+/// The waiting threads, and what each waits for.
 #[derive(Drop)]
 pub struct Waits {
     count: u32,
@@ -129,7 +129,7 @@ pub struct Waits {
     stuck: ThreadSet,
 }
 
-/// The threads but one that may let it go on by a capability of their own.
+/// Returns the threads except one that may unblock it by a capability of their own.
 fn able(count: u32, spaces: &Spaces, need: Need, thread: ObjId) -> ThreadSet {
     let mut set = ThreadSet::new();
     for serial in 1..=count {
@@ -141,7 +141,7 @@ fn able(count: u32, spaces: &Spaces, need: Need, thread: ObjId) -> ThreadSet {
     set
 }
 
-/// Those of some threads that are also among others, where there are some; else all the others.
+/// Returns those of some threads that are also in `others`; if there are none, all of `others`.
 fn preferred(count: u32, some: &ThreadSet, others: ThreadSet) -> ThreadSet {
     let mut set = ThreadSet::new();
     let mut is_empty = true;
@@ -156,8 +156,8 @@ fn preferred(count: u32, some: &ThreadSet, others: ThreadSet) -> ThreadSet {
 }
 
 impl Waits {
-    /// Which threads wait for which now, and which are stuck: it waits, and no thread that is not
-    /// stuck itself can ever let it go on.
+    /// Returns which threads wait for which, and which are stuck: a stuck thread waits, and no
+    /// thread that is not stuck itself can ever unblock it.
     pub fn new(alloc: Global, kernel: &Kernel<LinkedLines>) -> Result<Waits, LabFault> {
         let spaces = Spaces::new(alloc, kernel)?;
         let Ok(needs) = Needs::new(alloc, kernel) else {
@@ -202,12 +202,12 @@ impl Waits {
         Ok(())
     }
 
-    /// Whether a thread waits for some.
+    /// Returns whether a thread waits for some.
     fn waits_for_some(&self, thread: ObjId) -> bool {
         (1..=self.count).any(|serial| self.is_waited(thread, object(Kind::Thread, serial)))
     }
 
-    /// Whether a thread waits for another.
+    /// Returns whether a thread waits for another.
     pub fn is_waited(&self, thread: ObjId, other: ObjId) -> bool {
         match thread.place(Kind::Thread) {
             None => false,
@@ -218,17 +218,17 @@ impl Waits {
         }
     }
 
-    /// Whether some thread is stuck.
+    /// Returns whether some thread is stuck.
     pub fn has_stuck(&self) -> bool {
         (1..=self.count).any(|serial| self.is_stuck(object(Kind::Thread, serial)))
     }
 
-    /// Whether a thread is stuck.
+    /// Returns whether a thread is stuck.
     pub fn is_stuck(&self, thread: ObjId) -> bool {
         self.stuck.contains(thread)
     }
 
-    /// Adds the stuck threads for which one of these, or the thread itself, waits. False where
+    /// Adds the stuck threads for which one of these, or the thread itself, waits. Returns false if
     /// there are no more.
     fn reach_more(&self, thread: ObjId, reached: &mut ThreadSet) -> bool {
         let mut grew = false;
@@ -248,7 +248,7 @@ impl Waits {
         grew
     }
 
-    /// Whether a thread is reached again from itself, by threads that are stuck.
+    /// Returns whether a cycle of stuck threads leads from a thread back to it.
     fn is_in_cycle(&self, thread: ObjId) -> bool {
         let mut reached = ThreadSet::new();
         for _ in 0..self.count {
@@ -259,7 +259,8 @@ impl Waits {
         reached.contains(thread)
     }
 
-    /// How a thread is stuck: in a cycle of threads that wait for one another, or not.
+    /// Returns the word for how a thread is stuck: in a cycle of threads that wait for one another,
+    /// or not.
     pub fn kind(&self, thread: ObjId) -> &'static str {
         if self.is_in_cycle(thread) {
             "deadlock"
@@ -268,8 +269,8 @@ impl Waits {
         }
     }
 
-    /// Puts on the page what a thread waits for: a reply, its place in a queue, or a context. Puts
-    /// nothing for a thread that is inactive or closed.
+    /// Appends what a thread is blocked on: a reply, its place in a queue, or a missing context.
+    /// Appends nothing for a thread that is inactive or closed.
     fn put_cause(page: &mut Page, kernel: &Kernel<LinkedLines>, names: &Names, thread: ObjId) {
         match kernel.status(thread) {
             Some(Status::OnReply(reply)) => {
@@ -286,7 +287,7 @@ impl Waits {
         }
     }
 
-    /// Puts what is stuck, a line for each thread. True where nothing is.
+    /// Appends the stuck threads, a line each. Returns true if there are none.
     pub fn put(&self, page: &mut Page, kernel: &Kernel<LinkedLines>, names: &Names) -> bool {
         let mut is_free = true;
         for serial in 1..=self.count {
@@ -310,7 +311,7 @@ impl Waits {
         is_free
     }
 
-    /// Puts the threads that a thread waits for.
+    /// Appends the threads that a thread waits for.
     fn put_waited(
         &self,
         page: &mut Page,

@@ -7,14 +7,14 @@ use mcs_queues::LinkedLines;
 use mcs_text::Token;
 use mcs_types::{Kind, Mail, Message, ObjId, Queue, Status};
 
-/// Puts the tables of a kernel.
+/// Writes the tables of a kernel as text.
 #[derive(Drop)]
 struct Tables<'a> {
     kernel: &'a Kernel<LinkedLines>,
     names: &'a Names,
 }
 
-/// Puts the label and the words of a message.
+/// Appends the label and the words of a message.
 fn put_message(page: &mut Page, message: &Message) {
     page.put(b" ");
     page.number(message.label());
@@ -25,7 +25,7 @@ fn put_message(page: &mut Page, message: &Message) {
 }
 
 impl<'a> Tables<'a> {
-    /// Puts an object after some words, where there is one.
+    /// Appends an object after some words, if it exists.
     fn put_some(&self, page: &mut Page, before: &[u8], object: Option<ObjId>) {
         if let Some(object) = object {
             page.put(before);
@@ -33,7 +33,7 @@ impl<'a> Tables<'a> {
         }
     }
 
-    /// Puts what a thread does.
+    /// Appends what a thread does.
     fn put_status(&self, page: &mut Page, status: Option<Status>) {
         match status {
             Some(Status::Running) => page.put(b"running"),
@@ -52,7 +52,7 @@ impl<'a> Tables<'a> {
         }
     }
 
-    /// Puts what last reached a thread.
+    /// Appends what last reached a thread.
     fn put_mail(&self, page: &mut Page, thread: ObjId) {
         match self.kernel.mail(thread) {
             None => {}
@@ -88,7 +88,7 @@ impl<'a> Tables<'a> {
         page.put(b"\n");
     }
 
-    /// Puts the threads in a queue, with the message that it sent there.
+    /// Appends a queued thread, with the message that it sent.
     fn put_standing(&self, page: &mut Page, thread: ObjId) {
         page.put(b" ");
         page.object(self.names, thread);
@@ -102,7 +102,7 @@ impl<'a> Tables<'a> {
         }
     }
 
-    /// Puts a queue with its threads and their messages, where some are there.
+    /// Appends a queue with its threads and their messages, if it is not empty.
     fn put_queue(&self, page: &mut Page, queue: Queue) {
         let mut is_first = true;
         for thread in self.kernel.queue(queue) {
@@ -119,7 +119,7 @@ impl<'a> Tables<'a> {
         }
     }
 
-    /// Puts the chain of a context.
+    /// Appends the chain of a context.
     fn put_chain(&self, page: &mut Page, context: ObjId) {
         let mut is_first = true;
         for reply in self.kernel.chain(context) {
@@ -133,7 +133,7 @@ impl<'a> Tables<'a> {
         }
     }
 
-    /// Puts a context, where it is there.
+    /// Appends a context, if it exists.
     fn put_context(&self, page: &mut Page, context: ObjId) {
         let Some(core) = self.kernel.core(context) else {
             return;
@@ -151,7 +151,7 @@ impl<'a> Tables<'a> {
         page.put(b"\n");
     }
 
-    /// Puts what a reply object has with a thread, where there is one.
+    /// Appends a thread that uses a reply object, after words for how, if there is one.
     fn put_user(&self, page: &mut Page, reply: ObjId, words: &[u8], thread: Option<ObjId>) {
         if thread.is_some() {
             page.put(b"  ");
@@ -161,7 +161,7 @@ impl<'a> Tables<'a> {
         }
     }
 
-    /// Puts a notification, where something is pending there or a thread is bound to it.
+    /// Appends a notification, if its word is pending or a thread is bound to it.
     fn put_notification(&self, page: &mut Page, notification: ObjId) {
         let word = self.kernel.word(notification);
         let tied = self.kernel.tied(notification);
@@ -179,7 +179,7 @@ impl<'a> Tables<'a> {
         page.put(b"\n");
     }
 
-    /// Puts the slots of a CNode that are filled.
+    /// Appends the filled slots of a CNode.
     fn put_slots(&self, page: &mut Page, cnode: ObjId) {
         for index in 0..=u8::MAX {
             if let Some(cap) = self.kernel.capability(cnode, index) {
@@ -194,7 +194,7 @@ impl<'a> Tables<'a> {
         }
     }
 
-    /// Puts an object of a kind.
+    /// Appends an object of a kind.
     fn put_object(&self, page: &mut Page, object: ObjId) {
         match object.kind {
             Kind::Thread => self.put_thread(page, object),
@@ -212,7 +212,7 @@ impl<'a> Tables<'a> {
         }
     }
 
-    /// Puts all objects of a kind, under a title.
+    /// Appends all objects of a kind, under a title.
     fn put_kind(&self, page: &mut Page, title: &[u8], kind: Kind) {
         page.put(title);
         for serial in 1..=self.kernel.made(kind) {
@@ -221,7 +221,7 @@ impl<'a> Tables<'a> {
     }
 }
 
-/// Puts the state of each thread.
+/// Appends the state of each thread and object.
 pub fn put_tables(page: &mut Page, kernel: &Kernel<LinkedLines>, names: &Names) {
     let tables = Tables { kernel, names };
     tables.put_kind(page, b"threads\n", Kind::Thread);

@@ -9,14 +9,14 @@ use mcs_queues::LinkedLines;
 use mcs_text::Token;
 use mcs_types::{Kind, Letter, Mail, Message, ObjId, Queue, Status};
 
-/// Puts the values of a kernel.
+/// Writes the state of a kernel as JSON.
 #[derive(Drop)]
 struct Values<'a> {
     kernel: &'a Kernel<LinkedLines>,
     names: &'a Names,
 }
 
-/// Puts the words of a message.
+/// Appends the words of a message.
 fn put_words(page: &mut Page, message: &Message) {
     page.put(b"\"words\":[");
     let mut is_first = true;
@@ -28,7 +28,7 @@ fn put_words(page: &mut Page, message: &Message) {
     page.put(b"]");
 }
 
-/// Puts what a thread waits in or for, and what it does: the last members of an object.
+/// Appends what a thread is blocked on, and its status: the last members of an object.
 fn put_status(page: &mut Page, status: Option<Status>) {
     let word = match status {
         Some(Status::Running) => b"running".as_slice(),
@@ -51,7 +51,7 @@ fn put_status(page: &mut Page, status: Option<Status>) {
 }
 
 impl<'a> Values<'a> {
-    /// Puts what last reached a thread.
+    /// Appends what last reached a thread.
     fn put_mail(&self, page: &mut Page, thread: ObjId) {
         match self.kernel.mail(thread) {
             None => page.put(b"null"),
@@ -91,7 +91,7 @@ impl<'a> Values<'a> {
         page.put(b"}");
     }
 
-    /// Puts the threads in a queue, with the message that it sent there.
+    /// Appends a queued thread, with the message that it sent.
     fn put_letter(&self, page: &mut Page, thread: ObjId, letter: &Letter) {
         page.put(b"{\"badge\":");
         page.wide(letter.badge.0);
@@ -107,7 +107,7 @@ impl<'a> Values<'a> {
         page.put(b"}");
     }
 
-    /// Puts the threads in a queue.
+    /// Appends a queued thread.
     fn put_standing(&self, page: &mut Page, thread: ObjId) {
         match self.kernel.open(thread) {
             Some(letter) => self.put_letter(page, thread, letter),
@@ -120,8 +120,8 @@ impl<'a> Values<'a> {
         }
     }
 
-    /// Puts a queue, where some are there, after others or as the first. False where none are
-    /// there.
+    /// Appends a queue, with a comma unless it is the first; nothing if it is empty. Returns
+    /// whether it was appended.
     fn put_queue(&self, page: &mut Page, queue: Queue, is_first: bool) -> bool {
         let mut is_empty = true;
         for thread in self.kernel.queue(queue) {
@@ -142,7 +142,7 @@ impl<'a> Values<'a> {
         !is_empty
     }
 
-    /// Puts all queues in which some are.
+    /// Appends all queues that are not empty.
     fn put_queues(&self, page: &mut Page) {
         let mut is_first = true;
         for serial in 1..=self.kernel.made(Kind::Endpoint) {
@@ -162,7 +162,7 @@ impl<'a> Values<'a> {
         }
     }
 
-    /// Puts the chain of a context.
+    /// Appends the chain of a context.
     fn put_chain(&self, page: &mut Page, context: ObjId) {
         let mut is_first = true;
         for reply in self.kernel.chain(context) {
@@ -172,7 +172,7 @@ impl<'a> Values<'a> {
         }
     }
 
-    /// Puts an object that was closed.
+    /// Appends an object that was closed.
     fn put_closed(&self, page: &mut Page, object: ObjId) {
         page.put(b"{\"id\":");
         page.quoted_word(&Token::Name(object));
@@ -181,7 +181,7 @@ impl<'a> Values<'a> {
         page.put(b"}");
     }
 
-    /// Puts a context.
+    /// Appends a context.
     fn put_context(&self, page: &mut Page, context: ObjId) {
         let Some(core) = self.kernel.core(context) else {
             return self.put_closed(page, context);
@@ -200,7 +200,7 @@ impl<'a> Values<'a> {
         page.put(b"}");
     }
 
-    /// Puts a reply object.
+    /// Appends a reply object.
     fn put_reply(&self, page: &mut Page, reply: ObjId) {
         page.put(b"{\"id\":");
         page.quoted_word(&Token::Name(reply));
@@ -212,7 +212,7 @@ impl<'a> Values<'a> {
         page.put(b"}");
     }
 
-    /// Puts a notification.
+    /// Appends a notification.
     fn put_notification(&self, page: &mut Page, notification: ObjId) {
         page.put(b"{\"bound\":");
         page.maybe(self.kernel.tied(notification));
@@ -227,7 +227,7 @@ impl<'a> Values<'a> {
         page.put(b"}");
     }
 
-    /// Puts the slots of a CNode that are filled.
+    /// Appends the filled slots of a CNode.
     fn put_cnode(&self, page: &mut Page, cnode: ObjId) {
         page.put(b"{\"id\":");
         page.quoted_word(&Token::Name(cnode));
@@ -249,7 +249,7 @@ impl<'a> Values<'a> {
         page.put(b"]}");
     }
 
-    /// Puts an endpoint: its queues are among those of all.
+    /// Appends an endpoint; its threads are among those of all queues.
     fn put_endpoint(&self, page: &mut Page, endpoint: ObjId) {
         page.put(b"{\"id\":");
         page.quoted_word(&Token::Name(endpoint));
@@ -257,7 +257,7 @@ impl<'a> Values<'a> {
         page.put(b"}");
     }
 
-    /// Puts an object of a kind. A thread has its members also where it was closed.
+    /// Appends an object of a kind. A thread has its members even if it was closed.
     fn put_object(&self, page: &mut Page, object: ObjId) {
         if !self.kernel.is_there(object) && !object.kind.is_same(Kind::Thread) {
             return self.put_closed(page, object);
@@ -272,7 +272,7 @@ impl<'a> Values<'a> {
         }
     }
 
-    /// Puts all objects of a kind, after the name of the list.
+    /// Appends all objects of a kind, after the name of the list.
     fn put_all(&self, page: &mut Page, name: &[u8], kind: Kind) {
         page.put(name);
         for serial in 1..=self.kernel.made(kind) {
@@ -282,7 +282,7 @@ impl<'a> Values<'a> {
         page.put(b"],");
     }
 
-    /// Puts the names of all objects, where there are some, and a comma.
+    /// Appends the names of all objects, if there are some, and a comma.
     fn put_names(&self, page: &mut Page) {
         let mut member = NamesMember::new(self.names, true);
         for kind in KINDS {
@@ -293,7 +293,7 @@ impl<'a> Values<'a> {
         }
     }
 
-    /// Puts the threads for which a thread waits.
+    /// Appends the threads for which a thread waits.
     fn put_waited(&self, page: &mut Page, waits: &Waits, thread: ObjId) {
         let mut is_first = true;
         for serial in 1..=self.kernel.made(Kind::Thread) {
@@ -306,7 +306,7 @@ impl<'a> Values<'a> {
         }
     }
 
-    /// Puts the threads that are stuck, and the threads that each waits for.
+    /// Appends the stuck threads, and the threads that each waits for.
     fn put_stuck(&self, page: &mut Page, waits: &Waits) {
         page.put(b"\"stuck\":[");
         let mut is_first = true;
@@ -331,7 +331,7 @@ impl<'a> Values<'a> {
     }
 }
 
-/// Puts the state of each thread as one object, or only what is stuck.
+/// Appends the state of each thread as one JSON object, or only the stuck threads.
 pub fn put_values(
     page: &mut Page,
     kernel: &Kernel<LinkedLines>,

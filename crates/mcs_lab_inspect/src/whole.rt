@@ -1,10 +1,10 @@
-//! A script that is read whole before something is done with it.
+//! A script that is read whole first.
 use mcs_lab_check::{Judge, LabFault, TakesLines, take_lines};
 use mcs_sim::Source;
 use std::alloc::Global;
 use std::io::Read;
 
-/// A script that has no fault: its text, and how many lines its book has behind the boot.
+/// A script without a fault: its text, and how many lines its book has after the boot.
 #[derive(Drop)]
 pub struct Whole {
     judge: Judge,
@@ -17,7 +17,7 @@ impl Whole {
         self.text.as_slice()
     }
 
-    /// Returns how many lines the book has behind its boot.
+    /// Returns how many lines the book has after its boot.
     pub fn book_lines(&self) -> u64 {
         match self.judge.kernel() {
             Some(kernel) => kernel.book().lines().saturating_sub(1) as u64,
@@ -38,8 +38,8 @@ impl TakesLines for Whole {
     }
 }
 
-/// Reads a script whole. Its faults are those of its lines, of a read, of a full book and of memory
-/// that is refused.
+/// Reads a whole script. Its faults are those of its lines, of a read, of a full book and of a
+/// failed allocation.
 pub fn read_whole<R: Read>(alloc: Global, from: &mut Source<R>) -> Result<Whole, LabFault> {
     let text = Vec::new(alloc);
     let judge = Judge::new(alloc)?;

@@ -18,7 +18,7 @@ use mcs_types::{
 use std::alloc::Global;
 use std::io::{Read, Write};
 
-/// A line of the book, of which is reported what is easily overlooked.
+/// A line of the book, in which easily overlooked effects are looked for.
 #[derive(Drop)]
 struct Entered {
     step: Step,
@@ -26,8 +26,8 @@ struct Entered {
     records: Vec<Rec>,
 }
 
-/// The taker of a call and its caller, where nobody can answer it: in a line in which a message is
-/// taken its caller becomes inactive, and no debt to it ends.
+/// Returns the taker of a call and its caller, if no thread can reply: in a line that takes a
+/// message, its caller becomes Inactive, and no debt to it ends.
 fn unanswerable(records: &[Rec]) -> Option<(ObjId, ObjId)> {
     let mut taker = None;
     let mut ended = None;
@@ -45,7 +45,7 @@ fn unanswerable(records: &[Rec]) -> Option<(ObjId, ObjId)> {
     None
 }
 
-/// Whether lookup refuses so.
+/// Returns whether lookup gave this refusal.
 fn refuses<T: Drop>(found: Option<Result<T, Refusal>>, refusal: Refusal) -> bool {
     match found {
         Some(Err(why)) => why == refusal,
@@ -53,14 +53,15 @@ fn refuses<T: Drop>(found: Option<Result<T, Refusal>>, refusal: Refusal) -> bool
     }
 }
 
-/// Of a step: the thread that entered, and how lookup refused it.
+/// The thread of a step, and the refusal of lookup.
 #[derive(Clone, Copy)]
 struct Refused {
     thread: ObjId,
     refusal: Refusal,
 }
 
-/// Puts that an address is refused so, and where it leads. False where it is not.
+/// Appends that lookup gives an address this refusal, and where the address leads. Returns false if
+/// it does not.
 fn put_address(
     page: &mut Page,
     names: &Names,
@@ -79,7 +80,8 @@ fn put_address(
     true
 }
 
-/// Puts that a place is refused so, and where it leads. False where it is not.
+/// Appends that lookup gives a place this refusal, and where the place leads. Returns false if it
+/// does not.
 fn put_place(
     page: &mut Page,
     names: &Names,
@@ -111,7 +113,8 @@ fn place_of(index: u64, fields: &mut Fields<'_>, words: &mut Words<'_>) -> Optio
     Some(Place { index, depth })
 }
 
-/// Puts which address or place lookup refuses so, of the words of a step after its key, if one.
+/// Appends the first address or place of a step, from the words after its key, that lookup refuses
+/// so, if any.
 fn put_first_refused(
     page: &mut Page,
     names: &Names,
@@ -143,7 +146,7 @@ fn put_first_refused(
     false
 }
 
-/// Puts which address or place of a step lookup refuses so, if one.
+/// Appends the address or place of a step that lookup refuses so, if any.
 fn put_refused(
     page: &mut Page,
     names: &Names,
@@ -171,7 +174,7 @@ fn put_refused(
     )
 }
 
-/// Puts the thread that took the call for which a reply object owes.
+/// Appends the thread that took the call for which a reply object owes a reply.
 fn put_taker(
     alloc: Global,
     page: &mut Page,
@@ -190,8 +193,8 @@ fn put_taker(
     }
 }
 
-/// Puts on the page a thread and why it does not run: its queue, the reply for which it waits and
-/// who took its call, or that it is inactive or closed.
+/// Appends a thread and why it does not run: its queue, the reply that it waits for and who took
+/// its call, or that it is inactive or closed.
 fn put_status(
     alloc: Global,
     page: &mut Page,
@@ -217,7 +220,7 @@ fn put_status(
     }
 }
 
-/// Puts of which core the context of a thread is.
+/// Appends of which core the context of a thread is.
 fn put_other_core(page: &mut Page, names: &Names, kernel: &Kernel<LinkedLines>, thread: ObjId) {
     page.object(names, thread);
     page.put(b" holds ");
@@ -231,7 +234,7 @@ fn put_other_core(page: &mut Page, names: &Names, kernel: &Kernel<LinkedLines>, 
     }
 }
 
-/// Puts why a thread may not enter on a core.
+/// Appends why a thread may not enter on a core.
 fn put_reason(
     alloc: Global,
     page: &mut Page,
@@ -251,7 +254,7 @@ fn put_reason(
     }
 }
 
-/// Puts that a debt ended without an answer.
+/// Appends that a debt ended without an answer.
 fn put_void(page: &mut Page, names: &Names, reply: ObjId, caller: ObjId, ending: Ending) {
     page.object(names, reply);
     page.put(b" owed ");
@@ -262,7 +265,7 @@ fn put_void(page: &mut Page, names: &Names, reply: ObjId, caller: ObjId, ending:
     }
 }
 
-/// Puts what a record means for the thread that waits for an answer.
+/// Appends what a record means for the thread that waits for a reply.
 fn put_record(page: &mut Page, names: &Names, record: &Rec) {
     match record {
         Rec::Sent {
@@ -291,7 +294,7 @@ fn put_record(page: &mut Page, names: &Names, record: &Rec) {
     }
 }
 
-/// Whether a record is reported.
+/// Returns whether a record is reported.
 fn is_reported(record: &Rec) -> bool {
     match record {
         Rec::Sent {
@@ -322,8 +325,8 @@ fn is_reported(record: &Rec) -> bool {
     }
 }
 
-/// The address over which an entry sends and then does not wait, where nobody receives or nobody is
-/// owed an answer.
+/// Returns the address over which an entry sends without waiting, if no thread receives or is owed
+/// a reply.
 fn sends_once(entry: &Entry) -> Option<u64> {
     match entry {
         Entry::Send { cap, .. }
@@ -335,7 +338,7 @@ fn sends_once(entry: &Entry) -> Option<u64> {
     }
 }
 
-/// Whether a record sends a message, or pays an answer.
+/// Returns whether a record sends a message or a reply.
 fn delivers(record: &Rec) -> bool {
     match record {
         Rec::Sent { .. } | Rec::Paid { .. } => true,
@@ -358,7 +361,7 @@ fn delivers(record: &Rec) -> bool {
     }
 }
 
-/// Whether a message was sent, or an answer given, by some record.
+/// Returns whether some record sends a message or a reply.
 fn is_delivered(records: &[Rec]) -> bool {
     for record in records {
         if delivers(record) {
@@ -368,7 +371,7 @@ fn is_delivered(records: &[Rec]) -> bool {
     false
 }
 
-/// Whether an answer refuses.
+/// Returns whether an answer refuses.
 fn is_refused(answer: &Answer) -> bool {
     match answer {
         Answer::Refused(_) => true,
@@ -377,7 +380,7 @@ fn is_refused(answer: &Answer) -> bool {
     }
 }
 
-/// Whether a message goes to an object of this kind.
+/// Returns whether a message goes to an object of this kind.
 fn takes_messages(kind: Kind) -> bool {
     match kind {
         Kind::Endpoint | Kind::Reply => true,
@@ -385,7 +388,7 @@ fn takes_messages(kind: Kind) -> bool {
     }
 }
 
-/// The endpoint or reply object over which the message of a line went to nobody, if it did.
+/// Returns the endpoint or reply object over which the message of a line was lost, if it was.
 fn dropped_at(kernel: &Kernel<LinkedLines>, entered: &Entered) -> Option<ObjId> {
     let address = sends_once(&entered.step.entry)?;
     if is_refused(&entered.answer) || is_delivered(entered.records.as_slice()) {
@@ -397,7 +400,7 @@ fn dropped_at(kernel: &Kernel<LinkedLines>, entered: &Entered) -> Option<ObjId> 
     }
 }
 
-/// A script of which is reported what is easily overlooked.
+/// Explains a script, line by line.
 #[derive(Drop)]
 struct Teller {
     judge: Judge,
@@ -406,7 +409,8 @@ struct Teller {
 }
 
 impl Teller {
-    /// Of a script of which nothing is read. The judge is made last, so that no fault frees it.
+    /// Returns an explainer before the first line. The judge is made last, so that no fault has to
+    /// drop it.
     fn new(alloc: Global) -> Result<Teller, LabFault> {
         let page = Page::new(alloc)?;
         let names = Names::new(alloc);
@@ -414,7 +418,7 @@ impl Teller {
         Ok(Teller { judge, names, page })
     }
 
-    /// Puts the line of the last step, and a colon.
+    /// Appends the line of the last step, and a colon.
     fn put_step(&mut self) {
         let (number, step) = self.judge.step();
         self.page.put(b"line ");
@@ -475,7 +479,7 @@ impl Teller {
         self.page.put(b"\n");
     }
 
-    /// The answer and the records of the last step, where it was let in.
+    /// Returns the answer and the records of the last step, if it was accepted.
     fn entered(&self, alloc: Global) -> Result<Option<Entered>, OutOfMemory> {
         let Some((line, _)) = self.judge.entered() else {
             return Ok(None);
@@ -495,7 +499,7 @@ impl Teller {
         }))
     }
 
-    /// Reports the taker of a call that nobody can answer.
+    /// Reports the taker of a call to which no thread can reply.
     fn tell_unanswerable(&mut self, taker: ObjId, caller: ObjId) {
         self.put_step();
         self.page.object(&self.names, taker);
@@ -504,7 +508,7 @@ impl Teller {
         self.page.put(b", which nobody can answer: no reply object owes for it\n");
     }
 
-    /// Reports of records what is easily overlooked.
+    /// Reports records with easily overlooked effects.
     fn tell_records(&mut self, records: &[Rec]) {
         let mut tells = false;
         for record in records {
@@ -519,7 +523,7 @@ impl Teller {
         }
     }
 
-    /// Reports that the message or the answer of the last step went to nobody, where it did.
+    /// Reports that the message or the reply of the last step was lost, if it was.
     fn tell_dropped(&mut self, entered: &Entered) {
         let Some(kernel) = self.judge.kernel() else {
             return;
@@ -540,7 +544,7 @@ impl Teller {
         }
     }
 
-    /// Reports of the last step, which was let in, what is easily overlooked.
+    /// Reports easily overlooked effects of the last step, which was accepted.
     fn tell_entered(&mut self, alloc: Global) {
         match self.entered(alloc) {
             Ok(None) => {}
@@ -573,7 +577,7 @@ impl Teller {
         Ok(())
     }
 
-    /// Reports at the end what is stuck. True where nothing is.
+    /// Reports what is stuck at the end. Returns true if nothing is.
     fn tell_stuck(&mut self, alloc: Global) -> Result<bool, LabFault> {
         self.judge.end(alloc)?;
         let Some(kernel) = self.judge.kernel() else {
@@ -584,7 +588,7 @@ impl Teller {
     }
 }
 
-/// A script that is explained.
+/// A reader, with the explainer of its script.
 #[derive(Drop)]
 struct Explainer<W> {
     teller: Teller,
@@ -603,7 +607,7 @@ impl<W: Write> TakesLines for Explainer<W> {
     }
 }
 
-/// Explains a script, and what is stuck at its end. True where nothing is.
+/// Explains a script, and what is stuck at its end. Returns true if nothing is.
 fn explain_all<R: Read, W: Write>(
     alloc: Global,
     from: &mut Source<R>,
@@ -615,9 +619,9 @@ fn explain_all<R: Read, W: Write>(
     Ok(is_free)
 }
 
-/// Explains a script: each step that was skipped or refused, each call that nobody can answer, each
-/// debt that became void, each message or answer that was dropped, and at the end what is stuck.
-/// True where nothing is stuck.
+/// Explains a script: each skipped or refused step, each call to which no thread can reply, each
+/// debt that became void, each lost message or reply, and at the end what is stuck. Returns true if
+/// nothing is stuck.
 pub fn explain<R: Read, W: Write + Drop>(
     alloc: Global,
     from: &mut Source<R>,

@@ -12,13 +12,13 @@ use mcs_types::{ObjId, Status};
 /// How many colours there are.
 const COLOURS: u32 = 7;
 
-/// Half the width of a bar, and the width of the strip for a context that a thread holds while it
-/// waits.
+/// Half the width of a bar, and the width of the strip for a context that a blocked or inactive
+/// thread holds.
 const HALF: u64 = 6;
 
 const STRIP: u64 = 4;
 
-/// A bar: how a thread looks after some lines.
+/// A bar: how a thread looks after a range of lines.
 #[derive(Clone, Copy)]
 struct Bar {
     look: Look,
@@ -29,13 +29,13 @@ struct Bar {
 }
 
 impl Bar {
-    /// Returns whether a thread looks as in another bar.
+    /// Returns whether a thread looks the same in another bar.
     fn is_like(&self, other: Bar) -> bool {
         self.look == other.look && self.is_picked == other.is_picked
     }
 }
 
-/// Puts what a thread does: threads that run differ from those that could.
+/// Appends the status of a thread; running threads differ from those that are only ready.
 pub fn put_state<N: Names>(to: &mut Page, names: &N, look: Look, is_picked: bool) {
     if !is_ready(look.status) {
         return put_whole_look(to, names, look);
@@ -44,7 +44,7 @@ pub fn put_state<N: Names>(to: &mut Page, names: &N, look: Look, is_picked: bool
     put_look(to, names, look);
 }
 
-/// Puts a box in the colour of a context.
+/// Appends a box in the colour of a context.
 fn put_coloured(to: &mut Page, context: ObjId, more: &str, area: Area, title: &str) {
     let serial = context.serial.saturating_sub(1);
     put_attribute(to, b"<g class=\"k", (serial % COLOURS) as u64);
@@ -61,7 +61,7 @@ fn put_coloured(to: &mut Page, context: ObjId, more: &str, area: Area, title: &s
     to.put(b"</g>\n");
 }
 
-/// Puts a thin bar: a thread that is ready without a context.
+/// Appends a thin bar: a thread that is ready without a context.
 fn put_bare(to: &mut Page, area: Area, title: &str) {
     let thin = Area {
         x: area.x.saturating_add(HALF - 1),
@@ -71,7 +71,7 @@ fn put_bare(to: &mut Page, area: Area, title: &str) {
     put_area(to, "bare", thin, title)
 }
 
-/// What a bar shows, with the context on which its thread runs or could run, or which it holds
+/// What a bar shows, with the context on which its thread runs or is ready, or which it holds
 /// meanwhile.
 #[derive(Clone, Copy)]
 pub enum Shape {
@@ -88,7 +88,7 @@ pub enum Shape {
     Nothing,
 }
 
-/// Returns what the bar of a thread shows that looks so.
+/// Returns what the bar of a thread with this look shows.
 pub fn shape_of(look: Look, is_picked: bool) -> Shape {
     match (look.status, look.context) {
         (Some(Status::Running | Status::Restart), Some(context)) => {
@@ -105,7 +105,8 @@ pub fn shape_of(look: Look, is_picked: bool) -> Shape {
     }
 }
 
-/// Puts the bar of a thread that waits or is inactive, with a strip for the context that it holds.
+/// Appends the bar of a thread that waits or is inactive, with a strip for the context that it
+/// holds.
 fn put_holding(to: &mut Page, class: &str, context: Option<ObjId>, area: Area, title: &str) {
     put_area(to, class, area, title);
     if let Some(context) = context {
@@ -117,7 +118,7 @@ fn put_holding(to: &mut Page, class: &str, context: Option<ObjId>, area: Area, t
     }
 }
 
-/// Puts a bar of this title.
+/// Appends a bar with this title.
 pub fn put_bar(to: &mut Page, shape: Shape, area: Area, title: &str) {
     match shape {
         Shape::Runs(context) => put_coloured(to, context, "run", area, title),
@@ -129,7 +130,7 @@ pub fn put_bar(to: &mut Page, shape: Shape, area: Area, title: &str) {
     }
 }
 
-/// Puts the title of a bar: its thread, the lines after which it looks so, and what it does.
+/// Appends the title of a bar: its thread, the lines after which it looks so, and its status.
 fn put_title<N: Names>(to: &mut Page, names: &N, thread: ObjId, bar: Bar) {
     put_full_name(to, names, thread);
     if bar.first == bar.last {
@@ -145,7 +146,8 @@ fn put_title<N: Names>(to: &mut Page, names: &N, thread: ObjId, bar: Bar) {
     put_state(to, names, bar.look, bar.is_picked);
 }
 
-/// Puts a bar of this title that ends at this height, and says after which lines it is.
+/// Appends a bar with this title, down to this height, in a group with the first and the last line
+/// after which it is shown.
 fn put_group(to: &mut Page, x: u64, bar: Bar, bottom: u64, title: &str) {
     let area = Area {
         x: x.saturating_sub(HALF),
@@ -160,7 +162,7 @@ fn put_group(to: &mut Page, x: u64, bar: Bar, bottom: u64, title: &str) {
     to.put(b"</g>\n");
 }
 
-/// A lane whose bars are put, and its bar that has not ended.
+/// A lane while its bars are drawn, and its current bar.
 #[derive(Drop)]
 struct Lane<'a, N> {
     names: &'a N,
@@ -170,7 +172,7 @@ struct Lane<'a, N> {
 }
 
 impl<'a, N: Names> Lane<'a, N> {
-    /// Ends the bar of the lane at this height.
+    /// Ends the current bar of the lane at this height.
     fn end(&self, words: &mut Words, to: &mut Page, bottom: u64) {
         let Some(bar) = self.current else {
             return;
@@ -182,7 +184,8 @@ impl<'a, N: Names> Lane<'a, N> {
         }
     }
 
-    /// Takes how the thread looks after a line: the bar goes on, or ends where this one begins.
+    /// Takes how the thread looks after a line: the current bar continues, or ends where this one
+    /// begins.
     fn take(&mut self, words: &mut Words, to: &mut Page, next: Bar) {
         let current = self.current;
         self.current = match current {
@@ -198,7 +201,7 @@ impl<'a, N: Names> Lane<'a, N> {
     }
 }
 
-/// Returns how a thread looks after a line, which is seen at this height.
+/// Returns how a thread looks after a line, drawn at this height.
 fn bar_of(drawing: &Drawing, thread: ObjId, number: usize, top: u64) -> Bar {
     Bar {
         look: drawing.look(number, place_of(thread)),
@@ -209,7 +212,7 @@ fn bar_of(drawing: &Drawing, thread: ObjId, number: usize, top: u64) -> Bar {
     }
 }
 
-/// Puts the bars of the lane of a thread, at its place.
+/// Appends the bars of the lane of a thread.
 fn put_lane<N: Names>(
     words: &mut Words,
     to: &mut Page,
@@ -231,7 +234,7 @@ fn put_lane<N: Names>(
     lane.end(words, to, plan.end);
 }
 
-/// Puts the bars of all lanes.
+/// Appends the bars of all lanes.
 pub fn put_bars<N: Names>(words: &mut Words, to: &mut Page, scene: &Scene<'_, N>, plan: &Plan) {
     for (lane, thread) in plan.threads.iter().enumerate() {
         let x = plan.lanes.get(lane).copied().unwrap_or(0);

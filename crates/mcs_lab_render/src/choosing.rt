@@ -1,4 +1,4 @@
-//! The threads that a reader asks for, by their names or ids.
+//! The threads that the user asks for, by names or ids.
 use crate::naming::put_name;
 use crate::script_names::ScriptNames;
 use crate::texts::take_text;
@@ -7,13 +7,13 @@ use mcs_lab_inspect::Page;
 use mcs_types::{Kind, ObjId};
 use std::alloc::{AllocError, Global};
 
-/// How many threads are named where a word names none.
+/// How many threads a message lists at most.
 const MOST: u32 = 8;
 
-/// Why a list of threads is none.
+/// Why a list of threads is refused.
 #[derive(Drop)]
 pub enum NoThreads<'a> {
-    /// This word of it is the name or the id of no thread; these there are, at most eight.
+    /// This word is no name or id of a thread; `there` lists those that exist, at most eight.
     Word { word: &'a str, there: String },
     /// Memory was refused.
     OutOfMemory,
@@ -33,7 +33,7 @@ fn count_of(judge: &Judge) -> u32 {
     }
 }
 
-/// Returns the object of an id, or the one that alone has a name.
+/// Returns the object with this id, or the only one with this name.
 fn object_named(names: &Names, word: &[u8]) -> Option<ObjId> {
     if let Some(object) = object_of(word) {
         return Some(object);
@@ -44,7 +44,7 @@ fn object_named(names: &Names, word: &[u8]) -> Option<ObjId> {
     }
 }
 
-/// Returns the thread of a word, among so many.
+/// Returns the thread that a word names, among `count` threads.
 fn thread_of(names: &Names, count: u32, word: &[u8]) -> Option<ObjId> {
     let object = object_named(names, word)?;
     let place = object.place(Kind::Thread)?;
@@ -55,7 +55,7 @@ fn thread_of(names: &Names, count: u32, word: &[u8]) -> Option<ObjId> {
     }
 }
 
-/// Returns the names of the first threads, with commas between.
+/// Returns the names of the first threads, separated by commas.
 fn names_of(alloc: Global, names: &Names, count: u32) -> Result<String, AllocError> {
     let mut page = Page::new(alloc)?;
     for before in 0..count.min(MOST) {
@@ -80,8 +80,8 @@ fn add(threads: &mut Vec<ObjId>, thread: ObjId) -> Result<(), AllocError> {
     Ok(())
 }
 
-/// Returns the threads of a list of names and ids with commas between, in its order, as the names
-/// of a script that was taken say it. Fault Word where a word is no thread's.
+/// Returns the threads of a list of names and ids separated by commas, in its order. Fault `Word`
+/// if a word names no thread of the script.
 pub fn threads_named<'a>(
     alloc: Global,
     judge: &Judge,

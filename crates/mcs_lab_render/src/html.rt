@@ -10,7 +10,7 @@ use mcs_lab_diagram::Window;
 use mcs_lab_inspect::Page;
 use std::alloc::{AllocError, Global};
 
-/// What is before the title.
+/// The page before the title.
 const HEAD: &str = "<!DOCTYPE html>
 <html lang=\"en\">
 <head>
@@ -19,7 +19,7 @@ const HEAD: &str = "<!DOCTYPE html>
 <meta name=\"color-scheme\" content=\"light dark\">
 <title>";
 
-/// What is between the title and the picture.
+/// The page between the title and the picture.
 const BEFORE: &str = "</title>
 <style>
 html,body{height:100%}
@@ -60,17 +60,17 @@ body.stepping{display:block}
 <main tabindex=\"0\" aria-label=\"The picture\">
 ";
 
-/// What follows the picture, before the title in the panel.
+/// The page between the picture and the title in the panel.
 const BETWEEN: &str = "</main>
 <aside id=\"side\" hidden>
 <h1>";
 
-/// What follows that title, before the numbers of the first line and the last.
+/// The page between that title and the numbers of the first and last line.
 const PANEL: &str = "</h1>
 <p><label for=\"slider\">After line <output id=\"number\"></output></label> (keys: up, down, Home, End; or click a row)</p>
 <input id=\"slider\" type=\"range\" ";
 
-/// What follows those numbers.
+/// The page after those numbers.
 const BEHIND: &str = ">
 <p><button id=\"back\" type=\"button\">Back</button> <button id=\"next\" type=\"button\">Next</button></p>
 <p id=\"step\" aria-live=\"polite\"></p>
@@ -181,15 +181,15 @@ const BEHIND: &str = ">
 </html>
 ";
 
-/// Puts the numbers of the first line and the last, and of the one at which the page begins.
+/// Appends the numbers of the first line and the last, and of the one at which the page begins.
 fn put_slider(to: &mut Page, shown: Window) {
     put_attribute(to, b"min=\"", shown.first.saturating_sub(1) as u64);
     put_attribute(to, b" max=\"", shown.last as u64);
     put_attribute(to, b" value=\"", shown.first.min(shown.last) as u64);
 }
 
-/// Returns the picture of a scene, as a page with this title that needs no other. It begins at the
-/// first line that is shown.
+/// Returns the picture of a scene as an HTML page with this title, which needs no other file. It
+/// begins at the first line that is shown.
 pub fn html_of<N: Names>(
     alloc: Global,
     scene: &Scene<'_, N>,

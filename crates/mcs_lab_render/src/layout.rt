@@ -1,5 +1,5 @@
-//! How a page is laid out: its rows with their texts and arrows, then the heights of the rows and
-//! the places of the lanes.
+//! Lays out a page: first its rows with texts and arrows, then the heights of the rows and the
+//! positions of the lanes.
 use crate::naming::{Names, put_name};
 use crate::notes::{FEW, has_note, marked, put_label, put_look, put_lost, put_mark};
 use crate::numbers::put_words;
@@ -19,17 +19,17 @@ use mcs_types::{BootLine, CoreId, ObjId, Rec};
 use std::alloc::{AllocError, Global};
 use std::str;
 
-/// The most columns of a text at a lane, of what an arrow says, and of a text in the left margin.
+/// The maximal columns of a text at a lane, of an arrow's text, and of a text in the left margin.
 const NOTE_COLUMNS: u64 = 36;
 
 const LABEL_COLUMNS: u64 = 72;
 
 const STEP_COLUMNS: u64 = 48;
 
-/// The least distance of two lanes.
+/// The minimal distance of two lanes.
 const LANE_GAP: u64 = 84;
 
-/// An arrow of which one end has no lane, at the lane of its other end.
+/// An arrow with one end in a thread without a lane, drawn at the lane of the other end.
 #[derive(Drop)]
 struct Stub {
     lane: usize,
@@ -45,13 +45,13 @@ struct Entered<'a> {
     entry: &'a str,
 }
 
-/// A page that is made.
+/// A page under construction.
 #[derive(Drop)]
 struct Planner<'a, N> {
     alloc: Global,
     scene: &'a Scene<'a, N>,
-    /// The row of each line, from the one before the first that is shown on; for a line without a
-    /// row the row that follows.
+    /// The row of each line, from the line before the first shown one on; for a line without a row,
+    /// the next row.
     line_rows: Vec<usize>,
     word: Box<Line>,
     words: Words,
@@ -62,7 +62,7 @@ struct Planner<'a, N> {
     plan: Plan,
 }
 
-/// A text that is spelled, without its newline.
+/// Returns the text in the buffer, without its newline.
 fn spelled(line: &Line) -> &str {
     match str::from_utf8(line.text()) {
         Ok(text) => text.trim_end(),
@@ -70,7 +70,7 @@ fn spelled(line: &Line) -> &str {
     }
 }
 
-/// What follows the core and the thread of a step.
+/// Returns a step's text after its core and thread.
 fn entry_part(step: &str) -> &str {
     match step.splitn(3, ' ').nth(2) {
         Some(rest) => rest,
@@ -78,7 +78,7 @@ fn entry_part(step: &str) -> &str {
     }
 }
 
-/// Puts a step with the name of its thread, and with its core where there are several.
+/// Appends a step with the name of its thread, and with its core if the machine has several.
 fn put_spelled<N: Names>(
     alloc: Global,
     words: &mut Words,
@@ -94,7 +94,7 @@ fn put_spelled<N: Names>(
     put_words(alloc, &mut words.page, step.entry);
 }
 
-/// Returns the text of a step: as its file has it, or else as a script spells it.
+/// Returns the text of a step: from its file, or else as a script spells it.
 fn step_text<N: Names>(
     alloc: Global,
     words: &mut Words,
@@ -109,7 +109,7 @@ fn step_text<N: Names>(
     words.take_cut(STEP_COLUMNS)
 }
 
-/// Whether a record has an arrow.
+/// Returns whether a record has an arrow.
 fn has_arrow(fact: &Rec) -> bool {
     matches!(
         fact,
@@ -117,7 +117,7 @@ fn has_arrow(fact: &Rec) -> bool {
     )
 }
 
-/// Why a step was skipped.
+/// Returns why a step was skipped.
 fn why_away(why: EnterFault) -> &'static str {
     match why {
         EnterFault::NotRunning => "skipped: it does not run",
@@ -128,7 +128,7 @@ fn why_away(why: EnterFault) -> &'static str {
 }
 
 impl<'a, N: Names> Planner<'a, N> {
-    /// How the thread of a lane looks after a line.
+    /// Returns how the thread of a lane looks after a line.
     fn look(&self, number: usize, lane: usize) -> Look {
         match self.plan.threads.get(lane) {
             Some(thread) => self.scene.drawing.look(number, place_of(*thread)),
@@ -147,7 +147,7 @@ impl<'a, N: Names> Planner<'a, N> {
         }
     }
 
-    /// Adds a note of a row that is made, in the next slot of its lane.
+    /// Adds a note to the current row, in the next slot of its lane.
     fn add_note(
         &mut self,
         row: &mut Row,
@@ -174,7 +174,7 @@ impl<'a, N: Names> Planner<'a, N> {
         Ok(())
     }
 
-    /// Adds what the threads do after the line before the first.
+    /// Adds the states of the threads before the first shown line.
     fn add_start(&mut self) -> Result<(), AllocError> {
         let at = self.plan.before;
         let mut row = Row::new(self.alloc, RowKind::Start, at);
@@ -199,7 +199,7 @@ impl<'a, N: Names> Planner<'a, N> {
         self.line_rows.get(at).copied().unwrap_or(0)
     }
 
-    /// Takes the next arrow: that of the next record that has one.
+    /// Takes the next arrow, that of the next record with one.
     fn take_arrow(&mut self) -> Option<Arrow> {
         let drawing = self.scene.drawing;
         let arrow = drawing.strokes.arrows().get(self.next_arrow).copied();
@@ -207,7 +207,7 @@ impl<'a, N: Names> Planner<'a, N> {
         arrow
     }
 
-    /// Puts what an arrow says, with up to so many words of a message.
+    /// Appends the text of an arrow, with at most `most` words of a message.
     fn say(&mut self, arrow: &Arrow, fact: &Rec, most: usize) {
         put_label(
             self.alloc,
@@ -252,8 +252,8 @@ impl<'a, N: Names> Planner<'a, N> {
         Ok(())
     }
 
-    /// Adds an arrow of which one end has no lane: beside the lane of the other it says with whom
-    /// that is.
+    /// Adds an arrow of which one end has no lane: a note beside the lane of the other end names
+    /// the thread.
     fn add_stub(
         &mut self,
         arrow: Arrow,
@@ -274,7 +274,7 @@ impl<'a, N: Names> Planner<'a, N> {
         Ok(())
     }
 
-    /// Adds the arrow of a record, where it has one that reaches a lane.
+    /// Adds the arrow of a record, if it has one that touches a lane.
     fn add_arrow(&mut self, row: &mut Row, fact: &Rec) -> Result<(), AllocError> {
         if !has_arrow(fact) {
             return Ok(());
@@ -292,7 +292,7 @@ impl<'a, N: Names> Planner<'a, N> {
         }
     }
 
-    /// Adds the mark of a record to those of its lane, where that is.
+    /// Adds the mark of a record to its lane, if that exists.
     fn add_mark(&mut self, here: Point, fact: &Rec) -> Result<(), AllocError> {
         let Some(thread) = marked(&self.scene.drawing.strokes, here, fact) else {
             return Ok(());
@@ -310,7 +310,7 @@ impl<'a, N: Names> Planner<'a, N> {
         Ok(())
     }
 
-    /// Adds the labels of the arrows of a row that are not above them, at the lanes where they
+    /// Adds the labels of a row's arrows that are not written above them, at the lanes where they
     /// end.
     fn add_labels(
         &mut self,
@@ -353,7 +353,7 @@ impl<'a, N: Names> Planner<'a, N> {
         Ok(())
     }
 
-    /// Adds what the entry of a line sent to nobody, beside the lane of its thread.
+    /// Adds what the entry of a line sent without reaching a thread, beside the lane of its sender.
     fn add_lost(
         &mut self,
         row: &mut Row,
@@ -372,7 +372,7 @@ impl<'a, N: Names> Planner<'a, N> {
         self.add_note(row, used, lane, NoteKind::Lost, text.as_str())
     }
 
-    /// Adds what the thread of a lane does after a line, where that has a note.
+    /// Adds the state of a lane's thread after a line, if it has a note.
     fn add_state(
         &mut self,
         row: &mut Row,
@@ -390,7 +390,7 @@ impl<'a, N: Names> Planner<'a, N> {
         self.add_note(row, used, lane, NoteKind::State, text.as_str())
     }
 
-    /// Adds the marks of a lane, where it has some.
+    /// Adds the marks of a lane, if it has some.
     fn add_marks(
         &mut self,
         row: &mut Row,
@@ -408,7 +408,7 @@ impl<'a, N: Names> Planner<'a, N> {
         self.add_note(row, used, lane, NoteKind::Mark, mark.as_str())
     }
 
-    /// Adds what is written beside a lane in the row of a line.
+    /// Adds the notes beside a lane in the row of a line.
     fn add_lane(
         &mut self,
         row: &mut Row,
@@ -426,7 +426,7 @@ impl<'a, N: Names> Planner<'a, N> {
         self.add_marks(row, lane, &mut used)
     }
 
-    /// Adds what is written beside the lanes in the row of a line.
+    /// Adds the notes beside all lanes in the row of a line.
     fn add_lanes(
         &mut self,
         row: &mut Row,
@@ -440,7 +440,7 @@ impl<'a, N: Names> Planner<'a, N> {
         Ok(())
     }
 
-    /// Lays out the row of a line, with its step and its result.
+    /// Returns the row of a line, with its step and its result.
     fn row_of(&mut self, line: &BookLine<'_>, here: Point) -> Result<Row, AllocError> {
         let scene = self.scene;
         let kept = line.kept_step();
@@ -499,13 +499,13 @@ impl<'a, N: Names> Planner<'a, N> {
         Ok(())
     }
 
-    /// How much is at the lanes.
+    /// Returns how many notes, arrows and marks there are.
     fn count(&self) -> usize {
         let notes = self.plan.notes.len();
         notes.saturating_add(self.plan.strokes.len())
     }
 
-    /// Whether a line changes how a thread with a lane looks.
+    /// Returns whether a line changes how a thread with a lane looks.
     fn changes_look(&self, number: usize) -> bool {
         for lane in 0..self.plan.threads.len() {
             if self.look(number.saturating_sub(1), lane) != self.look(number, lane) {
@@ -515,7 +515,7 @@ impl<'a, N: Names> Planner<'a, N> {
         false
     }
 
-    /// Ends the row of a line: it is on the page where something of it is seen.
+    /// Ends the row of a line, which is on the page if something in it is seen.
     fn end_line(&mut self, row: Row, is_seen: bool) -> Result<(), AllocError> {
         self.line_rows.push(self.plan.rows.len())?;
         if is_seen {
@@ -524,8 +524,8 @@ impl<'a, N: Names> Planner<'a, N> {
         Ok(())
     }
 
-    /// Adds the row of a line in which a thread enters. Where that has no lane, and the line
-    /// reaches none, there is no row.
+    /// Adds the row of a line in which a thread enters; no row if the thread has no lane and the
+    /// line touches none.
     fn add_row(&mut self, line: &BookLine<'_>, here: Point) -> Result<(), AllocError> {
         let before = self.count();
         let mut row = self.row_of(line, here)?;
@@ -553,7 +553,7 @@ impl<'a, N: Names> Planner<'a, N> {
         self.add_row(&line, here)
     }
 
-    /// Adds the row of a step that was skipped, by its place among them.
+    /// Adds the row of a skipped step, by its index among them.
     fn add_away(&mut self, away: &Away, place: usize) -> Result<(), AllocError> {
         let scene = self.scene;
         let mut row = Row::new(self.alloc, RowKind::Away, away.behind);
@@ -571,8 +571,8 @@ impl<'a, N: Names> Planner<'a, N> {
         Ok(())
     }
 
-    /// Adds the rows of the steps that were skipped after a line, of threads with lanes; those
-    /// after lines before it are passed.
+    /// Adds the rows of the steps skipped after a line, of threads with lanes; those after earlier
+    /// lines are passed over.
     fn add_turned_away(&mut self, number: usize) -> Result<(), AllocError> {
         let drawing = self.scene.drawing;
         for at in self.next_away..drawing.away.len() {
@@ -590,7 +590,7 @@ impl<'a, N: Names> Planner<'a, N> {
         Ok(())
     }
 
-    /// Passes the arrows of the lines before the first that is shown.
+    /// Skips the arrows of the lines before the first shown one.
     fn pass_arrows(&mut self, first: usize) {
         let drawing = self.scene.drawing;
         for arrow in drawing.strokes.arrows() {
@@ -628,8 +628,8 @@ impl<'a, N: Names> Planner<'a, N> {
         self.plan.end = top.saturating_add(8);
     }
 
-    /// Where what a line changes is seen, by its place after the one before the first: in its row,
-    /// or above the row that follows where it has none.
+    /// Returns the height at which a line's changes are drawn, by its index after the line before
+    /// the first: in its row, or above the next row if it has none.
     fn event_of(&self, at: usize) -> u64 {
         let number = self.plan.before.saturating_add(at);
         let place = self.line_rows.get(at).copied().unwrap_or(0);
@@ -640,7 +640,7 @@ impl<'a, N: Names> Planner<'a, N> {
         }
     }
 
-    /// Sets where what each line changes is seen.
+    /// Sets the height at which each line's changes are drawn.
     fn set_events(&mut self) -> Result<(), AllocError> {
         for at in 0..self.line_rows.len() {
             let event = self.event_of(at);
@@ -649,7 +649,7 @@ impl<'a, N: Names> Planner<'a, N> {
         Ok(())
     }
 
-    /// Writes what is in the heads of the lanes.
+    /// Adds the heads of the lanes.
     fn add_heads(&mut self) -> Result<(), AllocError> {
         let scene = self.scene;
         for thread in scene.threads {
@@ -660,7 +660,7 @@ impl<'a, N: Names> Planner<'a, N> {
         Ok(())
     }
 
-    /// Sets the priority of a thread.
+    /// Tracks the priority of a thread.
     fn set_priority(&mut self, fact: &Rec) {
         if let Rec::Prio { thread, priority } = fact
             && let Some(kept) = self.plan.priorities.get_mut(place_of(*thread))
@@ -669,7 +669,7 @@ impl<'a, N: Names> Planner<'a, N> {
         }
     }
 
-    /// Sets the priorities that the threads have before the first line that is shown.
+    /// Sets the priorities that the threads have before the first shown line.
     fn set_priorities(&mut self) -> Result<(), AllocError> {
         let scene = self.scene;
         let book = scene.drawing.book();
@@ -693,7 +693,7 @@ impl<'a, N: Names> Planner<'a, N> {
         Ok(())
     }
 
-    /// Half the width of the head of a lane.
+    /// Returns half the width of the head of a lane.
     fn half_head(&self, lane: usize) -> u64 {
         match self.plan.heads.get(lane) {
             Some(head) => columns(head.as_str()).max(12).saturating_mul(COLUMN) / 2 + 8,
@@ -701,7 +701,7 @@ impl<'a, N: Names> Planner<'a, N> {
         }
     }
 
-    /// The widths of the gaps to the right of the lanes, as their heads need them.
+    /// Returns the widths of the gaps to the right of the lanes that their heads need.
     fn head_gaps(&self) -> Result<Vec<u64>, AllocError> {
         let mut gaps = Vec::new(self.alloc);
         for lane in 0..self.plan.threads.len() {
@@ -714,7 +714,7 @@ impl<'a, N: Names> Planner<'a, N> {
         Ok(gaps)
     }
 
-    /// The widths of the gaps to the right of the lanes, as texts need them.
+    /// Returns the widths of the gaps to the right of the lanes that texts need.
     fn gaps(&self) -> Result<Vec<u64>, AllocError> {
         let mut gaps = self.head_gaps()?;
         for note in self.plan.notes.iter() {
@@ -740,7 +740,7 @@ impl<'a, N: Names> Planner<'a, N> {
         most.saturating_mul(COLUMN).saturating_add(STEPS_AT + 16)
     }
 
-    /// Sets the places of the lanes.
+    /// Sets the positions of the lanes.
     fn set_lanes(&mut self) -> Result<(), AllocError> {
         let gaps = self.gaps()?;
         let mut at = self.margin().saturating_add(self.half_head(0));
@@ -763,7 +763,7 @@ impl<'a, N: Names> Planner<'a, N> {
     }
 }
 
-/// Makes a gap wide enough for a text, and for so much more.
+/// Makes a gap wide enough for a text and `more` pixels.
 fn widen(gaps: &mut Vec<u64>, gap: usize, text: &str, more: u64) {
     let needed = columns(text)
         .saturating_mul(COLUMN)
@@ -774,7 +774,7 @@ fn widen(gaps: &mut Vec<u64>, gap: usize, text: &str, more: u64) {
     }
 }
 
-/// The page of a scene. AllocError where memory was refused.
+/// Returns the page of a scene. `AllocError` if an allocation fails.
 pub fn plan_of<N: Names>(alloc: Global, scene: &Scene<'_, N>) -> Result<Plan, AllocError> {
     let threads = Vec::from_slice(alloc, scene.threads)?;
     let before = scene.window.first.saturating_sub(1);

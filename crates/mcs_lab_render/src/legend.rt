@@ -1,4 +1,5 @@
-//! What is below the lanes: what every thread does at the end, and what the colours and lines mean.
+//! What is below the lanes: the state of every thread at the end, and the legend of colours and
+//! lines.
 use crate::bars::{Shape, put_bar, put_state, shape_of};
 use crate::naming::{Names, put_full_name};
 use crate::paper::{Area, put_far, put_lost_line, put_point, put_text};
@@ -10,14 +11,14 @@ use mcs_lab_inspect::Page;
 use mcs_types::{Kind, ObjId};
 use std::alloc::{AllocError, Global};
 
-/// The left edge, and the widths of the samples of bars and of arrows.
+/// The left edge, and the widths of a bar's and of an arrow's sample.
 const LEFT: u64 = 12;
 
 const BAR: u64 = 18;
 
 const ARROW: u64 = 36;
 
-/// Puts the text of words at the left edge.
+/// Appends the text in `words` at the left edge.
 fn put_line_of(words: &mut Words, to: &mut Page, class: &str, y: u64) {
     match words.take() {
         Ok(text) => put_text(to, class, LEFT, y, text.as_str()),
@@ -25,7 +26,7 @@ fn put_line_of(words: &mut Words, to: &mut Page, class: &str, y: u64) {
     }
 }
 
-/// Puts where the run is.
+/// Appends after which line the picture ends.
 fn put_place(to: &mut Page, drawing: &Drawing, last: usize) {
     if last == drawing.lines() {
         return to.put(b"At the end");
@@ -34,7 +35,7 @@ fn put_place(to: &mut Page, drawing: &Drawing, last: usize) {
     to.count(last);
 }
 
-/// Puts what a thread does at the end.
+/// Appends the state of a thread at the end.
 fn put_thread<N: Names>(to: &mut Page, scene: &Scene<'_, N>, thread: ObjId) {
     let last = scene.window.last;
     let look: Look = scene.drawing.look(last, place_of(thread));
@@ -44,8 +45,8 @@ fn put_thread<N: Names>(to: &mut Page, scene: &Scene<'_, N>, thread: ObjId) {
     put_state(to, scene.names, look, is_picked);
 }
 
-/// Puts what every thread with a lane does at the end, a line each, and gives the height below
-/// them.
+/// Appends the state of each thread with a lane at the end, a line each, and returns the height
+/// below them.
 pub fn put_end<N: Names>(
     words: &mut Words,
     to: &mut Page,
@@ -63,7 +64,7 @@ pub fn put_end<N: Names>(
     y
 }
 
-/// Where the next sample of the legend is.
+/// The position of the next sample in the legend.
 #[derive(Drop)]
 struct Legend {
     x: u64,
@@ -72,8 +73,8 @@ struct Legend {
 }
 
 impl Legend {
-    /// Returns the place of a sample with a text of so many columns. At the end of a line of the
-    /// page it begins the next line.
+    /// Returns the position of a sample with a text of this width, on the next line of the page if
+    /// it does not fit.
     fn next(&mut self, sample: u64, text: &str) -> Area {
         let needed = columns(text)
             .saturating_mul(COLUMN)
@@ -94,13 +95,13 @@ impl Legend {
     }
 }
 
-/// Puts the text of a sample.
+/// Appends the text of a sample.
 fn put_meaning(to: &mut Page, area: Area, sample: u64, text: &str) {
     let (x, y) = (area.x.saturating_add(sample), area.y.saturating_add(11));
     put_text(to, "state", x, y, text);
 }
 
-/// Puts a line as arrows have it.
+/// Appends a sample of an arrow's line.
 fn put_line(to: &mut Page, class: &str, area: Area) {
     let (x, y) = (area.x, area.y.saturating_add(7));
     to.put(b"<path class=\"arrow ");
@@ -111,7 +112,7 @@ fn put_line(to: &mut Page, class: &str, area: Area) {
     to.put(b"\"/>\n");
 }
 
-/// Returns the place in the legend of a bar that does more than run; None for the others.
+/// Returns the position in the legend of a bar that needs an explanation; None for a running one.
 fn place_in_legend(shape: Shape) -> Option<usize> {
     match shape {
         Shape::Ready(_) => Some(0),
@@ -124,7 +125,7 @@ fn place_in_legend(shape: Shape) -> Option<usize> {
     }
 }
 
-/// How many places of bars the legend has.
+/// How many kinds of bars the legend has.
 const PLACES: usize = 6;
 
 /// Returns what a bar means.
@@ -150,17 +151,17 @@ fn context_of(shape: Shape) -> Option<ObjId> {
     }
 }
 
-/// The bars that are seen on a page: the legend has no others.
+/// The bars that are seen on a page; the legend explains only these.
 #[derive(Drop)]
 pub struct Seen {
-    /// Whether a bar has the colour of a context, by the places of the contexts.
+    /// Whether a bar has the colour of a context, by the index of the context.
     contexts: Vec<bool>,
-    /// The first bar of each meaning, by its place in the legend.
+    /// The first bar of each kind, by its position in the legend.
     shapes: Vec<Option<Shape>>,
 }
 
 impl Seen {
-    /// Returns that no bar is seen, where there are so many contexts.
+    /// Returns that no bar is seen, for `contexts` contexts.
     fn new(alloc: Global, contexts: u32) -> Result<Seen, AllocError> {
         let mut seen = Seen {
             contexts: Vec::new(alloc),
@@ -219,7 +220,7 @@ pub fn seen_in(alloc: Global, drawing: &Drawing, plan: &Plan) -> Result<Seen, Al
     Ok(seen)
 }
 
-/// Puts what a context is called in the legend.
+/// Appends the name of a context in the legend.
 fn put_context_name<N: Names>(to: &mut Page, names: &N, drawing: &Drawing, context: ObjId) {
     to.put(b"on ");
     put_full_name(to, names, context);
@@ -229,14 +230,14 @@ fn put_context_name<N: Names>(to: &mut Page, names: &N, drawing: &Drawing, conte
     }
 }
 
-/// Puts what a bar means.
+/// Appends a sample bar and what it means.
 fn put_shape(to: &mut Page, legend: &mut Legend, shape: Shape, text: &str) {
     let area = legend.next(BAR, text);
     put_bar(to, shape, area, "");
     put_meaning(to, area, BAR, text);
 }
 
-/// Puts what the colour of a context means.
+/// Appends the colour of a context and what it means.
 fn put_context<N: Names>(
     words: &mut Words,
     to: &mut Page,
@@ -251,7 +252,7 @@ fn put_context<N: Names>(
     }
 }
 
-/// Puts what the colours mean that are seen.
+/// Appends the seen colours and what they mean.
 fn put_contexts<N: Names>(
     words: &mut Words,
     to: &mut Page,
@@ -270,7 +271,7 @@ fn put_contexts<N: Names>(
     }
 }
 
-/// Puts the legend below this height, and gives the height below it.
+/// Appends the legend below this height, and returns the height below it.
 pub fn put_legend<N: Names>(
     words: &mut Words,
     to: &mut Page,
@@ -294,7 +295,7 @@ pub fn put_legend<N: Names>(
     legend.y
 }
 
-/// Puts what arrows of this class mean, where there are some.
+/// Appends an arrow of this class and what it means, if there are any.
 fn put_arrow_kind(to: &mut Page, legend: &mut Legend, class: &str, count: usize, text: &str) {
     if count == 0 {
         return;
@@ -304,7 +305,7 @@ fn put_arrow_kind(to: &mut Page, legend: &mut Legend, class: &str, count: usize,
     put_meaning(to, area, ARROW, text);
 }
 
-/// Puts what the arrows mean that are seen.
+/// Appends the seen arrows and what they mean.
 fn put_arrow_kinds(to: &mut Page, legend: &mut Legend, counts: Counts) {
     put_arrow_kind(to, legend, "message", counts.messages, "message");
     put_arrow_kind(to, legend, "answer", counts.answers, "answer");

@@ -9,10 +9,10 @@ use mcs_lab_inspect::Page;
 use mcs_types::ObjId;
 use std::alloc::{AllocError, Global};
 
-/// Words of Mermaid's own that a name may be.
+/// Names that are keywords of Mermaid.
 const OWN_WORDS: &[&str] = &["actor", "as", "end", "note", "participant"];
 
-/// Returns whether Mermaid takes a word for its own, in whatever case.
+/// Returns whether a word is a keyword of Mermaid, in any case.
 fn is_own(word: &[u8]) -> bool {
     for own in OWN_WORDS {
         if word.eq_ignore_ascii_case(own.as_bytes()) {
@@ -22,14 +22,14 @@ fn is_own(word: &[u8]) -> bool {
     false
 }
 
-/// Puts a letter by its number.
+/// Appends a letter as its character code.
 fn put_number(to: &mut Page, letter: u8) {
     to.put(b"#");
     to.number(letter as u64);
     to.put(b";");
 }
 
-/// Puts a word: one of Mermaid's own has its first letter by its number.
+/// Appends a word; of a keyword of Mermaid the first letter becomes a character code.
 fn put_word(to: &mut Page, word: &[u8]) {
     match word {
         [first, rest @ ..] if is_own(word) => {
@@ -40,8 +40,8 @@ fn put_word(to: &mut Page, word: &[u8]) {
     }
 }
 
-/// Puts what is between words, behind this letter. What ends a statement or belongs to an arrow is
-/// written by its number or name.
+/// Appends a separator of words, after the byte `before`. Bytes that end a statement or belong to
+/// an arrow become character codes or names.
 fn put_between(to: &mut Page, before: u8, one: u8) {
     match one {
         b';' | b'#' => put_number(to, one),
@@ -52,14 +52,14 @@ fn put_between(to: &mut Page, before: u8, one: u8) {
     }
 }
 
-/// Puts the word that a text has from a place on, up to another.
+/// Appends the word between two positions of a text.
 fn put_word_in(to: &mut Page, text: &[u8], first: usize, end: usize) {
     if let Some(word) = text.get(first..end) {
         put_word(to, word);
     }
 }
 
-/// Puts a text; what Mermaid takes for its own is written as it wants it.
+/// Appends a text, with escapes for what Mermaid would parse.
 fn put_text(to: &mut Page, text: &str) {
     let text = text.as_bytes();
     let mut first = 0;
@@ -75,13 +75,13 @@ fn put_text(to: &mut Page, text: &str) {
     put_word_in(to, text, first, text.len());
 }
 
-/// Puts a text, and ends the line.
+/// Appends a text, and ends the line.
 fn put_plain(to: &mut Page, text: &str) {
     put_text(to, text);
     to.put(b"\n");
 }
 
-/// Puts a lane.
+/// Appends the declaration of a lane.
 fn put_participant<N: Names>(words: &mut Words, to: &mut Page, names: &N, thread: ObjId) {
     to.put(b"    participant ");
     put_id(to, thread);
@@ -93,7 +93,7 @@ fn put_participant<N: Names>(words: &mut Words, to: &mut Page, names: &N, thread
     }
 }
 
-/// Puts an arrow.
+/// Appends an arrow.
 fn put_message(to: &mut Page, stroke: &Stroke) {
     let line = match stroke.arrow.shown {
         Shown::Message(_) => "->>",
@@ -108,14 +108,14 @@ fn put_message(to: &mut Page, stroke: &Stroke) {
     put_plain(to, stroke.label.as_str());
 }
 
-/// Puts the beginning of what is written beside the lane of a thread.
+/// Appends the beginning of a note beside the lane of a thread.
 fn put_over(to: &mut Page, thread: ObjId) {
     to.put(b"    Note over ");
     put_id(to, thread);
     to.put(b": ");
 }
 
-/// Puts what is written beside a lane; what an arrow says is at the arrow.
+/// Appends a note beside a lane; the text of an arrow is at the arrow.
 fn put_note(to: &mut Page, plan: &Plan, note: &Note) {
     let Some(thread) = plan.threads.get(note.lane) else {
         return;
@@ -126,7 +126,7 @@ fn put_note(to: &mut Page, plan: &Plan, note: &Note) {
     }
 }
 
-/// Puts a step that did nothing, at its thread: it was skipped, or refused.
+/// Appends a step that did nothing, skipped or refused, at its thread.
 fn put_idle_step(to: &mut Page, row: &Row) {
     let (Some(thread), RowKind::Away | RowKind::Refused) = (row.thread, row.kind) else {
         return;
@@ -137,7 +137,7 @@ fn put_idle_step(to: &mut Page, row: &Row) {
     put_plain(to, row.result.as_str());
 }
 
-/// Puts the arrows of a row, from a place on. Gives the place of the first that is left.
+/// Appends the arrows of a row, from an index on. Returns the index of the first one after the row.
 fn put_messages(to: &mut Page, strokes: &[Stroke], first: usize, row: usize) -> usize {
     for at in first..strokes.len() {
         match strokes.get(at) {
@@ -148,7 +148,7 @@ fn put_messages(to: &mut Page, strokes: &[Stroke], first: usize, row: usize) -> 
     strokes.len()
 }
 
-/// Puts the same of what is written beside lanes.
+/// Appends the notes of a row, from an index on. Returns the index of the first one after the row.
 fn put_notes(to: &mut Page, plan: &Plan, first: usize, row: usize) -> usize {
     for at in first..plan.notes.len() {
         match plan.notes.get(at) {
@@ -159,7 +159,7 @@ fn put_notes(to: &mut Page, plan: &Plan, first: usize, row: usize) -> usize {
     plan.notes.len()
 }
 
-/// Puts the rows of a page.
+/// Appends the rows of a page.
 fn put_rows(to: &mut Page, plan: &Plan) {
     let mut stroke = 0;
     let mut note = 0;
@@ -170,7 +170,7 @@ fn put_rows(to: &mut Page, plan: &Plan) {
     }
 }
 
-/// Returns the picture of a scene, as Mermaid's text.
+/// Returns the picture of a scene as a diagram for Mermaid.
 pub fn mermaid_of<N: Names>(alloc: Global, scene: &Scene<'_, N>) -> Result<String, AllocError> {
     let plan = plan_of(alloc, scene)?;
     let mut words = Words::new(alloc)?;

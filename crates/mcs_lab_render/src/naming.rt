@@ -9,13 +9,13 @@ pub trait Names: Drop {
     fn name(&self, object: ObjId) -> Option<&str>;
 }
 
-/// Puts the id of an object, as `t1`.
+/// Appends the id of an object, as `t1`.
 pub fn put_id(to: &mut Page, object: ObjId) {
     to.put(&[letter(object.kind)]);
     to.number(object.serial as u64);
 }
 
-/// Puts the name of an object, or its id where it has none.
+/// Appends the name of an object, or its id where it has none.
 pub fn put_name<N: Names>(to: &mut Page, names: &N, object: ObjId) {
     match names.name(object) {
         Some(name) => to.put(name.as_bytes()),
@@ -23,7 +23,7 @@ pub fn put_name<N: Names>(to: &mut Page, names: &N, object: ObjId) {
     }
 }
 
-/// Puts the id of an object, with its name where it has one, as `client (t1)`.
+/// Appends the id of an object, with its name where it has one, as `client (t1)`.
 pub fn put_full_name<N: Names>(to: &mut Page, names: &N, object: ObjId) {
     let Some(name) = names.name(object) else {
         return put_id(to, object);
@@ -34,7 +34,7 @@ pub fn put_full_name<N: Names>(to: &mut Page, names: &N, object: ObjId) {
     to.put(b")");
 }
 
-/// Puts the name of a queue, as `fs.recv`.
+/// Appends the name of a queue, as `fs.recv`.
 pub fn put_queue<N: Names>(to: &mut Page, names: &N, queue: Queue) {
     let (object, end) = match queue {
         Queue::Senders(object) => (object, ".send"),

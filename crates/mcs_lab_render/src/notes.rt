@@ -1,4 +1,4 @@
-//! What is written beside lanes and arrows.
+//! The notes beside lanes and arrows.
 use crate::naming::{Names, put_name, put_queue};
 use crate::numbers::{is_large, put_number};
 use mcs_book::{Book, Line};
@@ -7,28 +7,28 @@ use mcs_lab_inspect::Page;
 use mcs_types::{Ending, Entry, Kind, Message, ObjId, Rec, SendMode, Status};
 use std::alloc::Global;
 
-/// Puts a text and a number.
+/// Appends a text and a number.
 fn put_numbered(to: &mut Page, text: &str, number: u64) {
     to.put(text.as_bytes());
     to.number(number);
 }
 
-/// Puts a text and a name.
+/// Appends a text and a name.
 fn put_named<N: Names>(to: &mut Page, names: &N, text: &str, object: ObjId) {
     to.put(text.as_bytes());
     put_name(to, names, object);
 }
 
-/// Puts a name and a text.
+/// Appends a name and a text.
 fn put_said<N: Names>(to: &mut Page, names: &N, object: ObjId, text: &str) {
     put_name(to, names, object);
     to.put(text.as_bytes());
 }
 
-/// How many words of a message are in a label; one in hexadecimal counts twice.
+/// How many words of a message a label shows; one in hexadecimal counts twice.
 pub const FEW: usize = 4;
 
-/// Puts the words of a message, up to so many.
+/// Appends at most `most` words of a message.
 fn put_words(alloc: Global, to: &mut Page, words: &[u64], most: usize) {
     let mut left = most;
     for (before, word) in words.iter().enumerate() {
@@ -44,7 +44,7 @@ fn put_words(alloc: Global, to: &mut Page, words: &[u64], most: usize) {
     }
 }
 
-/// Puts a message, with up to so many of its words: `10(4096 1)`.
+/// Appends a message with at most `most` of its words: `10(4096 1)`.
 fn put_message(alloc: Global, to: &mut Page, message: &Message, most: usize) {
     put_number(alloc, to, message.label());
     to.put(b"(");
@@ -52,13 +52,13 @@ fn put_message(alloc: Global, to: &mut Page, message: &Message, most: usize) {
     to.put(b")");
 }
 
-/// Puts a text and a word or a badge.
+/// Appends a text, and the value of a word or a badge.
 fn put_valued(alloc: Global, to: &mut Page, text: &str, value: u64) {
     to.put(text.as_bytes());
     put_number(alloc, to, value);
 }
 
-/// How a message was sent.
+/// Returns the word for how a message was sent.
 fn mode_word(mode: SendMode) -> &'static str {
     match mode {
         SendMode::Plain => "",
@@ -68,7 +68,7 @@ fn mode_word(mode: SendMode) -> &'static str {
     }
 }
 
-/// Puts what a record says of a message that was sent, with up to so many words.
+/// Appends the message of a Sent record, with at most `most` words.
 fn put_sent<N: Names>(alloc: Global, to: &mut Page, names: &N, fact: &Rec, most: usize) {
     if let Rec::Sent {
         endpoint,
@@ -86,7 +86,7 @@ fn put_sent<N: Names>(alloc: Global, to: &mut Page, names: &N, fact: &Rec, most:
     }
 }
 
-/// Puts the message that a line sent, with up to so many words.
+/// Appends the message that a line sent, with at most `most` words.
 fn put_sent_by<N: Names>(alloc: Global, to: &mut Page, names: &N, line: &Line<'_>, most: usize) {
     for i in 0..line.record_count() {
         let Some(kept) = line.kept_record(i) else {
@@ -101,13 +101,13 @@ fn put_sent_by<N: Names>(alloc: Global, to: &mut Page, names: &N, line: &Line<'_
     }
 }
 
-/// Puts the name of a message.
+/// Appends the name of a message.
 fn put_message_name(to: &mut Page, number: u32) {
     put_numbered(to, "m", number as u64);
 }
 
-/// Puts what the record of an arrow says: the label, words and badge of a message, the label and
-/// words of an answer, or a word. Of a message there are up to so many words.
+/// Appends the text for the record of an arrow: the label, words and badge of a message, the label
+/// and words of a reply, or a notification word. A message shows at most `most` words.
 pub fn put_label<N: Names>(
     alloc: Global,
     to: &mut Page,
@@ -136,7 +136,7 @@ pub fn put_label<N: Names>(
     }
 }
 
-/// Puts what an entry sent to nobody.
+/// Appends what an entry sent that reached no thread.
 pub fn put_lost(alloc: Global, to: &mut Page, entry: &Entry) {
     to.put(b"to nobody: ");
     match entry {
@@ -149,12 +149,12 @@ pub fn put_lost(alloc: Global, to: &mut Page, entry: &Entry) {
     }
 }
 
-/// Whether a thread that does this can run.
+/// Returns whether a thread with this status can run.
 pub fn is_ready(status: Option<Status>) -> bool {
     matches!(status, Some(Status::Running | Status::Restart))
 }
 
-/// Puts what a thread does.
+/// Appends the status of a thread.
 pub fn put_look<N: Names>(to: &mut Page, names: &N, look: Look) {
     match (look.status, look.context) {
         (Some(Status::Running | Status::Restart), Some(context)) => {
@@ -171,7 +171,7 @@ pub fn put_look<N: Names>(to: &mut Page, names: &N, look: Look) {
     }
 }
 
-/// Puts what a thread does, and the context that it holds while it does not run.
+/// Appends the status of a thread, and the context that it holds while it does not run.
 pub fn put_whole_look<N: Names>(to: &mut Page, names: &N, look: Look) {
     put_look(to, names, look);
     if is_ready(look.status) {
@@ -182,8 +182,8 @@ pub fn put_whole_look<N: Names>(to: &mut Page, names: &N, look: Look) {
     }
 }
 
-/// Whether a look has its note, where the row before had this one: a thread that runs has one where
-/// its context is another.
+/// Returns whether a look gets a note after the look in the row before: a running thread gets one
+/// if its context changed.
 pub fn has_note(before: Look, now: Look) -> bool {
     if is_ready(now.status) {
         return now.context != before.context;
@@ -191,8 +191,8 @@ pub fn has_note(before: Look, now: Look) -> bool {
     now.status != before.status
 }
 
-/// The thread at whose lane the mark of a record is; None where it has no mark. The entering thread
-/// stands in for what is no thread.
+/// Returns the thread at whose lane the mark of a record is; None if it has no mark. The entering
+/// thread stands in for an object that is no thread.
 pub fn marked(strokes: &Strokes, here: Point, fact: &Rec) -> Option<ObjId> {
     match fact {
         Rec::Dropped { message } => Some(strokes.start_of(here, *message).thread),
@@ -207,7 +207,7 @@ pub fn marked(strokes: &Strokes, here: Point, fact: &Rec) -> Option<ObjId> {
     }
 }
 
-/// Puts words and a name, or that there is none.
+/// Appends words and a name, or that there is none.
 fn put_end<N: Names>(to: &mut Page, names: &N, words: &str, object: Option<ObjId>) {
     match object {
         Some(object) => put_named(to, names, words, object),
@@ -218,7 +218,7 @@ fn put_end<N: Names>(to: &mut Page, names: &N, words: &str, object: Option<ObjId
     }
 }
 
-/// Puts the mark of a notification that was raised, or of a context without a holder.
+/// Appends the mark of a raised notification, or of a context without a holder.
 fn put_word_mark<N: Names>(alloc: Global, to: &mut Page, names: &N, fact: &Rec) {
     match fact {
         Rec::Raised {
@@ -241,7 +241,7 @@ fn put_word_mark<N: Names>(alloc: Global, to: &mut Page, names: &N, fact: &Rec) 
     }
 }
 
-/// Says how a reply object was ended.
+/// Returns the word for how a debt was voided.
 fn void_word(ending: Ending) -> &'static str {
     match ending {
         Ending::Deleted => " void (deleted)",
@@ -249,13 +249,13 @@ fn void_word(ending: Ending) -> &'static str {
     }
 }
 
-/// Puts what ended, behind a cross.
+/// Appends what ended, after a cross.
 fn put_ended<N: Names>(to: &mut Page, names: &N, object: ObjId, text: &str) {
     to.put("✗ ".as_bytes());
     put_said(to, names, object, text);
 }
 
-/// Puts the mark of a record.
+/// Appends the mark of a record.
 pub fn put_mark<N: Names>(alloc: Global, to: &mut Page, names: &N, fact: &Rec) {
     match fact {
         Rec::Dropped { message } => {

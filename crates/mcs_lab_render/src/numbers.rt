@@ -2,15 +2,15 @@
 use mcs_lab_inspect::Page;
 use std::alloc::Global;
 
-/// From which number on numbers are hexadecimal.
+/// From this number on, numbers are hexadecimal.
 const LARGE: u64 = 4_294_967_296;
 
-/// Returns whether a number is hexadecimal.
+/// Returns whether a number is shown in hexadecimal.
 pub fn is_large(number: u64) -> bool {
     number >= LARGE
 }
 
-/// Puts a number.
+/// Appends a number.
 pub fn put_number(alloc: Global, to: &mut Page, number: u64) {
     if is_large(number) {
         to.made(format!(in alloc; "0x{number:x}"));
@@ -19,7 +19,7 @@ pub fn put_number(alloc: Global, to: &mut Page, number: u64) {
     }
 }
 
-/// Puts a word, which may be a number.
+/// Appends a word, in the form for pictures if it is a number.
 fn put_word(alloc: Global, to: &mut Page, word: &str) {
     match word.parse::<u64>() {
         Ok(number) if is_large(number) => put_number(alloc, to, number),
@@ -27,7 +27,7 @@ fn put_word(alloc: Global, to: &mut Page, word: &str) {
     }
 }
 
-/// Puts words with a blank between two, the numbers among them as a picture has them.
+/// Appends words separated by blanks, with numbers in the form for pictures.
 pub fn put_words(alloc: Global, to: &mut Page, text: &str) {
     for (before, word) in text.split(' ').enumerate() {
         if before > 0 {

@@ -11,14 +11,14 @@ pub struct Area {
     pub height: u64,
 }
 
-/// Puts an attribute whose value is a number, from its name up to the quote behind it.
+/// Appends an attribute with a number as value, from its name to the closing quote.
 pub fn put_attribute(to: &mut Page, name: &[u8], value: u64) {
     to.put(name);
     to.number(value);
     to.put(b"\"");
 }
 
-/// Puts a command of a path, and where it leads.
+/// Appends a command of a path with its target.
 pub fn put_point(to: &mut Page, command: &[u8], x: u64, y: u64) {
     to.put(command);
     to.number(x);
@@ -26,13 +26,14 @@ pub fn put_point(to: &mut Page, command: &[u8], x: u64, y: u64) {
     to.number(y);
 }
 
-/// Puts a command of a path that has one number.
+/// Appends a command of a path with a single number.
 pub fn put_far(to: &mut Page, command: &[u8], at: u64) {
     to.put(command);
     to.number(at);
 }
 
-/// Puts a text whose baseline begins, is in the middle or ends at a place, as its class says.
+/// Appends a text at a position; its class says whether the baseline begins there, is centred or
+/// ends.
 pub fn put_text(to: &mut Page, class: &str, x: u64, y: u64, text: &str) {
     to.put(b"<text class=\"");
     to.put(class.as_bytes());
@@ -43,7 +44,7 @@ pub fn put_text(to: &mut Page, class: &str, x: u64, y: u64, text: &str) {
     to.put(b"</text>\n");
 }
 
-/// Puts a box up to the end of its attributes.
+/// Appends a box up to the end of its attributes.
 fn put_box(to: &mut Page, class: &str, area: Area) {
     to.put(b"<rect class=\"");
     to.put(class.as_bytes());
@@ -53,7 +54,7 @@ fn put_box(to: &mut Page, class: &str, area: Area) {
     put_attribute(to, b" height=\"", area.height);
 }
 
-/// Puts a box, over which a pointer shows the title.
+/// Appends a box with a tooltip.
 pub fn put_area(to: &mut Page, class: &str, area: Area, title: &str) {
     put_box(to, class, area);
     if title.is_empty() {
@@ -64,12 +65,12 @@ pub fn put_area(to: &mut Page, class: &str, area: Area, title: &str) {
     to.put(b"</title></rect>\n");
 }
 
-/// How far a send that reached nobody goes, and how much farther off its lane its text is.
+/// The length of the line of a lost send, and how much farther from its lane its text is.
 const LOST: u64 = 16;
 
 pub const LOST_TEXT: u64 = 18;
 
-/// Puts a cross.
+/// Appends a cross.
 fn put_cross(to: &mut Page, x: u64, y: u64) {
     let (left, right) = (x.saturating_sub(3), x.saturating_add(3));
     let (up, down) = (y.saturating_sub(3), y.saturating_add(3));
@@ -79,8 +80,8 @@ fn put_cross(to: &mut Page, x: u64, y: u64) {
     put_point(to, b"L", right, up);
 }
 
-/// Puts the line of a send that reached nobody, of this line of the book, from a place to the
-/// right: it ends in a cross.
+/// Appends the line of a lost send, of this line of the book, from a position to the right; it ends
+/// in a cross.
 pub fn put_lost_line(to: &mut Page, number: Option<usize>, x: u64, y: u64) {
     let end = x.saturating_add(LOST);
     to.put(b"<path class=\"arrow lost\"");
@@ -101,8 +102,7 @@ pub enum Way {
     Back,
 }
 
-/// Puts the short line of an arrow with an end that has no lane, of this line of the book, whose
-/// other end is to the left.
+/// Appends a short line, of this line of the book, for an arrow whose end to the left has no lane.
 pub fn put_short_line(to: &mut Page, class: &str, number: Option<usize>, x: u64, y: u64, way: Way) {
     let end = x.saturating_add(LOST);
     let (from, far) = match way {
@@ -121,9 +121,8 @@ pub fn put_short_line(to: &mut Page, class: &str, number: Option<usize>, x: u64,
     to.put(b"\"/>\n");
 }
 
-/// The page's styles: colours that most readers tell apart, by Okabe and Ito, on a light and on a
-/// dark ground. The one that looks like an alarm comes last; a text has its hue where a step is
-/// refused.
+/// The page's styles: colours that most readers can tell apart, by Okabe and Ito, on light and dark
+/// backgrounds. Refusals have the colour that looks like an alarm, so contexts get it last.
 pub const STYLE: &str = "<style>
 text{font:11px 'DejaVu Sans Mono',Menlo,Consolas,monospace;fill:#111;paint-order:stroke;stroke:#fff;stroke-width:3px;stroke-linejoin:round}
 .ground{fill:#fff}

@@ -15,36 +15,37 @@ pub const COLUMN: u64 = 7;
 /// The height of the heads of lanes.
 pub const HEAD: u64 = 64;
 
-/// How far a text keeps off a lane, and at which distance from it an arrow that waits runs down.
+/// How far a text keeps off a lane, and how far from the lane a waiting arrow runs down.
 pub const CLEAR: u64 = 13;
 
 pub const BESIDE: u64 = 9;
 
-/// Within its slot, where an arrow crosses over, and the baselines of its label and of a text
-/// beside a lane. The tip of an arrow is eight high, and a text goes up by nine and down by three.
+/// Within a slot, the height at which an arrow crosses over, and the baselines of its label and of
+/// a note. The tip of an arrow is 8 high; a text extends 9 up and 3 down.
 pub const ARROW_AT: u64 = 13;
 
 pub const LABEL_AT: u64 = 9;
 
 pub const TEXT_AT: u64 = 11;
 
-/// Where the numbers of lines end, those of the book and those of the file, and where steps begin.
+/// The right edges of the numbers of the book's and of the file's lines, and the left edge of
+/// steps.
 pub const NUMBERS_AT: u64 = 48;
 
 pub const FILES_AT: u64 = 100;
 
 pub const STEPS_AT: u64 = 110;
 
-/// How far the line across a row is above what it has.
+/// How far the line across a row is above its contents.
 pub const RULE: u64 = 5;
 
-/// The least width of a page: the legend below few lanes needs it.
+/// The minimal width of a page, which the legend needs below few lanes.
 pub const LEAST_WIDTH: u64 = 560;
 
 /// What a row shows.
 #[derive(Clone, Copy, PartialEq, Eq, Debug)]
 pub enum RowKind {
-    /// What is before the first line that is shown.
+    /// The state before the first shown line.
     Start,
     /// A line of the book.
     Line,
@@ -58,7 +59,7 @@ pub enum RowKind {
 #[derive(Drop)]
 pub struct Row {
     pub kind: RowKind,
-    /// The line of the book, after which a step was skipped.
+    /// The line of the book; for a skipped step, the one before it.
     pub number: usize,
     /// The line of the file with the step.
     pub line: Option<u64>,
@@ -87,7 +88,7 @@ impl Row {
         }
     }
 
-    /// Where in a row what it changes is seen.
+    /// Returns the height in a row at which its changes are drawn.
     pub fn event(&self) -> u64 {
         if self.kind == RowKind::Start {
             HEAD.saturating_add(8)
@@ -96,31 +97,32 @@ impl Row {
         }
     }
 
-    /// Whether it is that of a line of the book, or of what is before the first that is shown.
+    /// Returns whether it is the row of this line of the book, or of the state before the first
+    /// shown one.
     pub fn is_of_line(&self, number: usize) -> bool {
         self.number == number && self.kind != RowKind::Away
     }
 }
 
-/// What is written beside a lane.
+/// The kind of a note beside a lane.
 #[derive(Clone, Copy)]
 pub enum NoteKind {
-    /// What an arrow says that does not stay in its row.
+    /// The text of an arrow that leaves its row.
     Label,
-    /// What a thread does.
+    /// The state of a thread.
     State,
-    /// What else changes.
+    /// Another change.
     Mark,
-    /// What was sent to nobody.
+    /// A send that reached no thread.
     Lost,
-    /// What an arrow says that comes from a thread without a lane.
+    /// The text of an arrow from a thread without a lane.
     Comes(Shown),
-    /// What an arrow says that goes to a thread without a lane.
+    /// The text of an arrow to a thread without a lane.
     Goes(Shown),
 }
 
 impl NoteKind {
-    /// Whether there is a short line before the text.
+    /// Returns whether a short line precedes the text.
     pub fn has_line(self) -> bool {
         match self {
             NoteKind::Lost | NoteKind::Comes(_) | NoteKind::Goes(_) => true,
@@ -146,7 +148,7 @@ pub struct Ends {
     pub to: usize,
 }
 
-/// An arrow on the page, from row to row, with its label, and with all that it says.
+/// An arrow on the page, from row to row, with its label and its full text.
 #[derive(Drop)]
 pub struct Stroke {
     pub arrow: Arrow,
@@ -159,12 +161,12 @@ pub struct Stroke {
 }
 
 impl Stroke {
-    /// Whether it stays in its row and leads to another lane.
+    /// Returns whether it stays in its row and leads to another lane.
     pub fn is_straight(&self) -> bool {
         self.from_row == self.row && self.ends.from != self.ends.to
     }
 
-    /// The gap in which the label of a straight arrow is: beside the lane where it ends.
+    /// Returns the gap for the label of a straight arrow: beside the lane where it ends.
     pub fn gap(&self) -> usize {
         if self.ends.from < self.ends.to {
             self.ends.to.saturating_sub(1)
@@ -174,7 +176,7 @@ impl Stroke {
     }
 }
 
-/// How many arrows of each kind a page has, and how many sends that reached nobody.
+/// How many arrows of each kind a page has, and how many lost sends.
 #[derive(Clone, Copy)]
 pub struct Counts {
     pub messages: usize,
@@ -193,7 +195,7 @@ impl Counts {
         }
     }
 
-    /// Counts the short line of a note, where there is one.
+    /// Counts the short line of a note, if there is one.
     fn count_note(&mut self, kind: NoteKind) {
         match kind {
             NoteKind::Comes(shown) | NoteKind::Goes(shown) => self.count(shown),
@@ -209,14 +211,14 @@ pub struct Plan {
     pub rows: Vec<Row>,
     pub notes: Vec<Note>,
     pub strokes: Vec<Stroke>,
-    /// The threads with lanes, the places of these, and what is in their heads.
+    /// The threads with lanes, the positions of these, and their heads.
     pub threads: Vec<ObjId>,
     pub lanes: Vec<u64>,
     pub heads: Vec<String>,
-    /// The priorities of all threads before the first line that is shown.
+    /// The priorities of all threads before the first shown line.
     pub priorities: Vec<u8>,
-    /// The line before the first that is shown, and where what that line and each after it changes
-    /// is seen, whether it has a row or not.
+    /// The line before the first shown one, and the heights at which its changes and those of each
+    /// later line are drawn, with a row or without.
     pub before: usize,
     pub events: Vec<u64>,
     pub end: u64,
@@ -224,7 +226,7 @@ pub struct Plan {
 }
 
 impl Plan {
-    /// A page with these threads, of lines after one.
+    /// Returns a page with these threads, of the lines after one.
     pub fn new(alloc: Global, threads: Vec<ObjId>, before: usize) -> Plan {
         Plan {
             rows: Vec::new(alloc),

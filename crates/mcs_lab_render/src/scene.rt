@@ -1,4 +1,4 @@
-//! What is drawn, and which part of it is shown.
+//! The drawing, and which part of it is shown.
 use crate::naming::Names;
 use crate::steps::Steps;
 use mcs_lab_diagram::{Drawing, Window};
@@ -6,8 +6,8 @@ use mcs_plan_source::STARTER;
 use mcs_types::{Kind, ObjId, Status};
 use std::alloc::{AllocError, Global};
 
-/// A run that is drawn: its names, where its steps stand, the threads with lanes in their order,
-/// and the lines of its book that are shown, which are there.
+/// A run that is drawn: its names, the positions of its steps, the threads with lanes in their
+/// order, and the existing lines of its book that are shown.
 #[derive(Drop)]
 pub struct Scene<'a, N> {
     pub drawing: &'a Drawing,
@@ -17,7 +17,7 @@ pub struct Scene<'a, N> {
     pub window: Window,
 }
 
-/// The place of a thread among all threads, from 0.
+/// Returns the index of a thread among all threads, from 0.
 pub fn place_of(thread: ObjId) -> usize {
     thread.serial.saturating_sub(1) as usize
 }
@@ -32,8 +32,8 @@ pub fn lane_in(threads: &[ObjId], thread: ObjId) -> Option<usize> {
     None
 }
 
-/// Returns whether a thread has done all that it is there for, after a line: it has the name of
-/// the thread by which plans start others, and is inactive.
+/// Returns whether a thread has nothing left to do after a line: it is the thread `starter`, by
+/// which plans start others, and is inactive.
 fn is_done<N: Names>(drawing: &Drawing, names: &N, thread: ObjId, line: usize) -> bool {
     let Some(name) = names.name(thread) else {
         return false;
@@ -42,8 +42,8 @@ fn is_done<N: Names>(drawing: &Drawing, names: &N, thread: ObjId, line: usize) -
     name == STARTER && look.status == Some(Status::Inactive)
 }
 
-/// Returns the threads that have lanes where none is asked for: all that have not done after this
-/// line what they are there for.
+/// Returns the threads that have lanes by default: all that have something left to do after this
+/// line.
 fn busy_threads<N: Names>(
     alloc: Global,
     drawing: &Drawing,
@@ -68,7 +68,7 @@ fn is_there(drawing: &Drawing, thread: ObjId) -> bool {
     }
 }
 
-/// Returns these threads, each once, as far as they are there.
+/// Returns these threads, each once, if they exist.
 fn asked_threads(
     alloc: Global,
     drawing: &Drawing,
@@ -83,9 +83,8 @@ fn asked_threads(
     Ok(threads)
 }
 
-/// Returns the threads that have lanes, in their order: those that are wanted. Where none is, all
-/// have one, but for the thread by which plans start others where it is inactive after the last
-/// line that is shown.
+/// Returns the threads that have lanes, in order: those that are wanted. By default all have one,
+/// except `starter`, by which plans start others, if it is inactive after the last shown line.
 pub fn threads_shown<N: Names>(
     alloc: Global,
     drawing: &Drawing,

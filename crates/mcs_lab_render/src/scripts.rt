@@ -18,14 +18,14 @@ use std::io::{Read, Write};
 use std::marker::Model;
 use std::str;
 
-/// What is made of a run.
+/// The format of a drawing.
 #[derive(Clone, Copy, PartialEq, Eq, Debug)]
 pub enum Format {
-    /// A picture of its own.
+    /// A standalone SVG picture.
     Svg,
     /// A text from which Mermaid makes a picture.
     Mermaid,
-    /// A page with the picture, through which one steps.
+    /// An HTML page with the picture, to step through.
     Html,
 }
 
@@ -33,20 +33,21 @@ pub enum Format {
 #[derive(Clone, Copy)]
 pub struct Asked<'a> {
     pub format: Format,
-    /// The lines of the book that are shown, as far as they are there.
+    /// The lines of the book that are shown, if they exist.
     pub window: Window,
-    /// The threads that have lanes, in their order. Where none is named all have one, but for a
-    /// thread `starter` that is inactive after the last line: by it plans start passive servers.
+    /// The threads that have lanes, in order. By default all have one, except a thread `starter`
+    /// that is inactive after the last line: by it plans start passive servers.
     pub threads: &'a [ObjId],
-    /// The texts of the steps, by their lines in the script. Where a text is empty or not there,
-    /// the picture has the step as the script spells it, with the names of threads.
+    /// The texts of the steps, by their lines in the script. If a text is empty or missing, the
+    /// picture shows the step as the script spells it, with the names of threads.
     pub texts: &'a [String],
-    /// The line of the file for each line of the script; one without a number is its own.
+    /// For each line of the script the line of the file; a line without an entry has its own
+    /// number.
     pub numbers: &'a [u64],
 }
 
 impl Asked<'_> {
-    /// Asks for all lines of a script that is the file itself.
+    /// Returns the request for all lines of a script that is the file itself.
     pub fn whole<'a>(format: Format) -> Asked<'a> {
         Asked {
             format,
@@ -72,7 +73,7 @@ impl Asked<'_> {
     }
 }
 
-/// A script that is read: its replay, its names, and its lines.
+/// A script that was read: its replay, its names, and its lines.
 #[derive(Drop)]
 struct Script {
     judge: Judge,
@@ -94,7 +95,7 @@ impl TakesLines for Script {
     }
 }
 
-/// A drawing of all lines of its book, and where the steps stand.
+/// A drawing of all lines of a book, and the positions of the steps.
 #[derive(Drop)]
 struct Drawn {
     drawing: Drawing,
@@ -121,8 +122,8 @@ impl Drawn {
         Ok(Drawn { drawing, steps })
     }
 
-    /// Returns the drawing with one more step, of this line and this origin. The faults of a
-    /// drawing are reported as those of a script.
+    /// Returns the drawing with one more step, of this line and this origin. Its faults become
+    /// those of a script.
     fn with_step(
         self,
         alloc: Global,
@@ -145,7 +146,7 @@ impl Drawn {
     }
 }
 
-/// Returns the room for a message.
+/// Returns room for the words of a message.
 fn new_room(alloc: Global) -> Result<Room, LabFault> {
     match Room::new(alloc) {
         Ok(room) => Ok(room),
@@ -227,7 +228,7 @@ fn page_with(
     }
 }
 
-/// The page of a script that was taken whole; None where it has no boot.
+/// Returns the page of a script that was read whole; None if it has no boot.
 fn page_of(alloc: Global, script: &Script, asked: &Asked<'_>) -> Result<Option<String>, LabFault> {
     let Some(kernel) = script.judge.kernel() else {
         return Ok(None);
@@ -238,9 +239,9 @@ fn page_of(alloc: Global, script: &Script, asked: &Asked<'_>) -> Result<Option<S
     Ok(Some(page))
 }
 
-/// Draws a script of steps, or a trace, as it is asked for. Its faults are those of
-/// `mcs_lab_check`: a line that is refused, a name without its form, a read, a write, a full book,
-/// or memory that is refused.
+/// Draws a script of steps, or a trace, in the format asked for. Its faults are those of
+/// `mcs_lab_check`: of a line, of a name without its form, of a read or write, of a full book, or
+/// of a failed allocation.
 pub fn draw_script<R: Read, W: Write>(
     alloc: Global,
     from: &mut Source<R>,

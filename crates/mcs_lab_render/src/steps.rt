@@ -1,16 +1,15 @@
 //! The origins of the steps of a drawing: their lines in the file that was given, and their texts.
 use std::alloc::{AllocError, Global};
 
-/// The origin of a step: its line in the file that was given, and its text there. Where the text is
-/// empty a picture has the step as a script spells it.
+/// The origin of a step: its line in the given file, and its text there. If the text is empty, a
+/// picture shows the step as a script spells it.
 #[derive(Drop)]
 pub struct Origin {
     pub line: u64,
     pub text: String,
 }
 
-/// The origins of the steps of a drawing, in their order: of those in its book, and of those that
-/// were skipped.
+/// The origins of the steps of a drawing, in order: of those in its book, and of the skipped ones.
 #[derive(Drop)]
 pub struct Steps {
     entered: Vec<Origin>,
@@ -18,7 +17,7 @@ pub struct Steps {
 }
 
 impl Steps {
-    /// Returns no steps.
+    /// Returns an empty list of steps.
     pub fn new(alloc: Global) -> Steps {
         Steps {
             entered: Vec::new(alloc),
@@ -26,9 +25,9 @@ impl Steps {
         }
     }
 
-    /// Adds a step after which the book has so many lines, without that of the boot. The step was
-    /// skipped unless these are more than the steps in the book so far. AllocError where memory was
-    /// refused.
+    /// Adds a step after which the book has `lines` lines, the boot's not counted. It was skipped
+    /// unless the book has more lines than steps were added to it. `AllocError` if an allocation
+    /// fails.
     pub fn add(&mut self, origin: Origin, lines: usize) -> Result<(), AllocError> {
         if lines > self.entered.len() {
             self.entered.push(origin)?;
@@ -43,7 +42,7 @@ impl Steps {
         self.entered.get(number.checked_sub(1)?)
     }
 
-    /// Returns the origin of a step that was skipped, by its place among them from 0.
+    /// Returns the origin of a skipped step, by its index among them from 0.
     pub fn of_skipped(&self, place: usize) -> Option<&Origin> {
         self.skipped.get(place)
     }

@@ -17,23 +17,23 @@ use mcs_lab_diagram::Shown;
 use mcs_lab_inspect::Page;
 use std::alloc::{AllocError, Global};
 
-/// How far from a lane an arrow begins, how far from it its tip is, and where one to its own lane
-/// turns back.
+/// How far from a lane an arrow begins, how far from it its tip is, and where an arrow to its own
+/// lane turns back.
 const EDGE: u64 = 6;
 
 const TIP: u64 = 7;
 
 const TURN: u64 = 23;
 
-/// Within its slot, where the short line before a text is.
+/// Within a slot, the height of the short line before a text.
 const SHORT_AT: u64 = 8;
 
-/// The place of a lane.
+/// Returns the position of a lane.
 fn lane_at(plan: &Plan, lane: usize) -> u64 {
     plan.lanes.get(lane).copied().unwrap_or(0)
 }
 
-/// Puts the head of a lane.
+/// Appends the head of a lane.
 fn put_head(to: &mut Page, plan: &Plan, lane: usize, head: &str) {
     let x = lane_at(plan, lane);
     let half = columns(head).max(12).saturating_mul(7) / 2 + 6;
@@ -48,7 +48,7 @@ fn put_head(to: &mut Page, plan: &Plan, lane: usize, head: &str) {
     put_priority(to, plan, lane, x);
 }
 
-/// Puts the priority of the thread of a lane.
+/// Appends the priority of the thread of a lane.
 fn put_priority(to: &mut Page, plan: &Plan, lane: usize, x: u64) {
     let Some(thread) = plan.threads.get(lane) else {
         return;
@@ -61,7 +61,7 @@ fn put_priority(to: &mut Page, plan: &Plan, lane: usize, x: u64) {
     }
 }
 
-/// Puts the heads of the numbers of lines, and of the lanes.
+/// Appends the heads of the numbers of lines, and of the lanes.
 fn put_heads(to: &mut Page, plan: &Plan) {
     to.put(b"<g class=\"heads\">\n");
     put_text(to, "number", NUMBERS_AT, 48, "book");
@@ -72,7 +72,7 @@ fn put_heads(to: &mut Page, plan: &Plan) {
     to.put(b"</g>\n");
 }
 
-/// Puts the line across a row.
+/// Appends the line across a row.
 fn put_rule(to: &mut Page, plan: &Plan, row: &Row) {
     put_far(
         to,
@@ -83,13 +83,13 @@ fn put_rule(to: &mut Page, plan: &Plan, row: &Row) {
     to.put(b"\"/>\n");
 }
 
-/// Puts the beginning of a row of this line of the book.
+/// Appends the beginning of a row of this line of the book.
 fn put_row(to: &mut Page, number: usize) {
     put_attribute(to, b"<g class=\"row\" data-line=\"", number as u64);
     to.put(b">");
 }
 
-/// Puts the number of a line that ends at a place.
+/// Appends the number of a line that ends at a place.
 fn put_number(to: &mut Page, x: u64, y: u64, number: u64) {
     put_attribute(to, b"<text class=\"number\" x=\"", x);
     put_attribute(to, b" y=\"", y);
@@ -98,14 +98,14 @@ fn put_number(to: &mut Page, x: u64, y: u64, number: u64) {
     to.put(b"</text>\n");
 }
 
-/// Puts the number of the line of the file with a row's step.
+/// Appends the number of the line of the file with a row's step.
 fn put_file_number(to: &mut Page, row: &Row, first: u64) {
     if let Some(line) = row.line {
         put_number(to, FILES_AT, first, line);
     }
 }
 
-/// Puts the numbers of a line, its step and its result.
+/// Appends the numbers of a line, its step and its result.
 fn put_step(to: &mut Page, row: &Row, class: &str, first: u64) {
     put_row(to, row.number);
     put_number(to, NUMBERS_AT, first, row.number as u64);
@@ -116,7 +116,7 @@ fn put_step(to: &mut Page, row: &Row, class: &str, first: u64) {
     to.put(b"</g>\n");
 }
 
-/// Puts the left margin of a row, and the line across it.
+/// Appends the left margin of a row, and the line across it.
 fn put_margin(to: &mut Page, plan: &Plan, row: &Row) {
     put_rule(to, plan, row);
     let first = row.top.saturating_add(TEXT_AT);
@@ -137,7 +137,7 @@ fn put_margin(to: &mut Page, plan: &Plan, row: &Row) {
     }
 }
 
-/// Puts the dot of the thread that enters, where it has a lane.
+/// Appends the dot of the thread that enters, if it has a lane.
 fn put_dot(to: &mut Page, plan: &Plan, row: &Row) {
     let Some(lane) = row.thread.and_then(|thread| plan.lane_of(thread)) else {
         return;
@@ -155,7 +155,7 @@ fn put_dot(to: &mut Page, plan: &Plan, row: &Row) {
     to.put(b" r=\"3.5\"/>\n");
 }
 
-/// The top of a slot of a row.
+/// Returns the top of a slot of a row.
 fn slot_top(plan: &Plan, row: usize, slot: usize) -> u64 {
     let top = match plan.rows.get(row) {
         Some(row) => row.top,
@@ -164,7 +164,7 @@ fn slot_top(plan: &Plan, row: usize, slot: usize) -> u64 {
     top.saturating_add((slot as u64).saturating_mul(SLOT))
 }
 
-/// A place so far from a lane, on the side of the lane to which an arrow leads.
+/// Returns the position at distance `far` from a lane, on the side to which an arrow leads.
 fn aside(x: u64, is_right: bool, far: u64) -> u64 {
     if is_right {
         x.saturating_add(far)
@@ -173,8 +173,8 @@ fn aside(x: u64, is_right: bool, far: u64) -> u64 {
     }
 }
 
-/// Puts the line of an arrow to its own lane. One that waited runs down beside the lane before it
-/// turns back.
+/// Appends the line of an arrow to its own lane. One that waited runs down beside the lane before
+/// it turns back.
 fn put_turn(to: &mut Page, plan: &Plan, stroke: &Stroke, lane: u64) {
     let top = slot_top(plan, stroke.row, stroke.slot);
     let x = lane.saturating_add(TIP);
@@ -191,8 +191,8 @@ fn put_turn(to: &mut Page, plan: &Plan, stroke: &Stroke, lane: u64) {
     put_far(to, b"H", x);
 }
 
-/// Puts the line of an arrow from one lane to another. One that waited runs down beside its lane to
-/// the slot in which it crosses over.
+/// Appends the line of an arrow from one lane to another. One that waited runs down beside its lane
+/// to the slot in which it crosses over.
 fn put_way(to: &mut Page, plan: &Plan, stroke: &Stroke, a: u64, b: u64) {
     let top = slot_top(plan, stroke.row, stroke.slot);
     let y = top.saturating_add(ARROW_AT);
@@ -209,7 +209,7 @@ fn put_way(to: &mut Page, plan: &Plan, stroke: &Stroke, a: u64, b: u64) {
     put_point(to, b"L", aside(b, !is_right, TIP), y);
 }
 
-/// Puts the line of an arrow.
+/// Appends the line of an arrow.
 fn put_path(to: &mut Page, plan: &Plan, stroke: &Stroke) {
     let (from, end) = (stroke.ends.from, stroke.ends.to);
     let (a, b) = (lane_at(plan, from), lane_at(plan, end));
@@ -219,7 +219,7 @@ fn put_path(to: &mut Page, plan: &Plan, stroke: &Stroke) {
     put_way(to, plan, stroke, a, b);
 }
 
-/// Puts what a pointer shows over an arrow.
+/// Appends the tooltip of an arrow.
 fn put_hint<N: Names>(to: &mut Page, names: &N, stroke: &Stroke) {
     put_full_name(to, names, stroke.arrow.from.thread);
     to.put(b" to ");
@@ -237,7 +237,7 @@ fn class_of(shown: Shown) -> &'static str {
     }
 }
 
-/// Puts an arrow, over which a pointer shows all that it says.
+/// Appends an arrow, with its full text as tooltip.
 fn put_stroke<N: Names>(words: &mut Words, to: &mut Page, names: &N, plan: &Plan, stroke: &Stroke) {
     to.put(b"<path class=\"arrow ");
     to.put(class_of(stroke.arrow.shown).as_bytes());
@@ -269,7 +269,7 @@ fn put_label(to: &mut Page, plan: &Plan, stroke: &Stroke) {
     put_text(to, "label", x, y, stroke.label.as_str());
 }
 
-/// Puts the short line of a note, of this line of the book.
+/// Appends the short line of a note, of this line of the book.
 fn put_short(to: &mut Page, kind: NoteKind, number: Option<usize>, x: u64, y: u64) {
     match kind {
         NoteKind::Lost => put_lost_line(to, number, x, y),
@@ -279,7 +279,7 @@ fn put_short(to: &mut Page, kind: NoteKind, number: Option<usize>, x: u64, y: u6
     }
 }
 
-/// Puts a text beside a lane that has a short line before it.
+/// Appends a text beside a lane after its short line.
 fn put_with_line(to: &mut Page, plan: &Plan, note: &Note, class: &str) {
     let x = lane_at(plan, note.lane);
     let top = slot_top(plan, note.row, note.slot);
@@ -293,7 +293,7 @@ fn put_with_line(to: &mut Page, plan: &Plan, note: &Note, class: &str) {
     put_text(to, class, x, y, note.text.as_str());
 }
 
-/// Puts what is written beside a lane.
+/// Appends a note beside a lane.
 fn put_note(to: &mut Page, plan: &Plan, note: &Note) {
     let y = slot_top(plan, note.row, note.slot).saturating_add(TEXT_AT);
     let x = lane_at(plan, note.lane).saturating_add(CLEAR);
@@ -305,7 +305,7 @@ fn put_note(to: &mut Page, plan: &Plan, note: &Note) {
     }
 }
 
-/// Puts the arrows without their labels, and the dots over them.
+/// Appends the arrows without their labels, and the dots over them.
 fn put_arrows<N: Names>(words: &mut Words, to: &mut Page, names: &N, plan: &Plan) {
     for stroke in plan.strokes.iter() {
         put_stroke(words, to, names, plan, stroke);
@@ -315,7 +315,7 @@ fn put_arrows<N: Names>(words: &mut Words, to: &mut Page, names: &N, plan: &Plan
     }
 }
 
-/// Puts everything of the page that is beside its lanes, but what is below them.
+/// Appends everything on the page above the end of its lanes.
 fn put_all<N: Names>(words: &mut Words, to: &mut Page, scene: &Scene<'_, N>, plan: &Plan) {
     for row in plan.rows.iter() {
         put_margin(to, plan, row);
@@ -343,7 +343,7 @@ fn lines_in(plan: &Plan) -> usize {
     lines
 }
 
-/// Puts what is read aloud of the picture: its title, and how much it shows.
+/// Appends the text that screen readers read: the title of the picture, and how much it shows.
 fn put_title(to: &mut Page, plan: &Plan, title: &str) {
     to.put(b"<title>");
     put_escaped(to, title);
@@ -361,7 +361,7 @@ fn put_title(to: &mut Page, plan: &Plan, title: &str) {
     to.put(b"</desc>\n");
 }
 
-/// Puts the first line of the page.
+/// Appends the first line of the page, with its size.
 fn put_size(to: &mut Page, width: u64, height: u64) {
     to.put(b"<svg xmlns=\"http://www.w3.org/2000/svg\" role=\"img\"");
     put_attribute(to, b" width=\"", width);
@@ -371,7 +371,7 @@ fn put_size(to: &mut Page, width: u64, height: u64) {
     to.put(b">\n");
 }
 
-/// Puts the lanes and what is below them, and gives the height of the page.
+/// Appends the lanes and what is below them, and returns the height of the page.
 fn put_body<N: Names>(
     words: &mut Words,
     to: &mut Page,
@@ -384,7 +384,7 @@ fn put_body<N: Names>(
     put_legend(words, to, scene, plan, seen, below).saturating_add(20)
 }
 
-/// Returns the picture of a scene, as SVG with this title.
+/// Returns the picture of a scene as SVG with this title.
 pub fn svg_of<N: Names>(
     alloc: Global,
     scene: &Scene<'_, N>,

@@ -1,15 +1,14 @@
-//! Texts as they are on a page: how wide they are, cut where they are too wide, and with what a
-//! page's marks would hide.
+//! Texts on a page: their width, cutting, and escapes.
 use mcs_lab_inspect::Page;
 use std::alloc::{AllocError, Global};
 use unicode_width::{UnicodeWidthChar, UnicodeWidthStr};
 
-/// How many columns a text takes.
+/// Returns how many columns a text takes.
 pub fn columns(text: &str) -> u64 {
     text.width() as u64
 }
 
-/// A text of at most so many columns: one that is wider is cut, and ends with dots.
+/// Returns a text of at most `most` columns: a wider one is cut, and ends with dots.
 pub fn cut(alloc: Global, text: &str, most: u64) -> Result<String, AllocError> {
     let mut kept = String::new(alloc);
     if columns(text) <= most {
@@ -28,8 +27,8 @@ pub fn cut(alloc: Global, text: &str, most: u64) -> Result<String, AllocError> {
     Ok(kept)
 }
 
-/// Returns what stands for a byte on a page of XML, behind these two, where it does not stand for
-/// itself. What XML has no form for becomes a blank, or U+FFFD.
+/// Returns the escape for a byte on a page of XML, after the two bytes `before`; None if it needs
+/// none. What XML cannot contain becomes a blank, or U+FFFD.
 fn form_of(before: [u8; 2], one: u8) -> Option<&'static [u8]> {
     match one {
         b'&' => Some(b"&amp;"),
@@ -43,14 +42,14 @@ fn form_of(before: [u8; 2], one: u8) -> Option<&'static [u8]> {
     }
 }
 
-/// Puts the bytes of a text from a place on, up to another.
+/// Appends the bytes of a text between two positions.
 fn put_part(to: &mut Page, text: &[u8], first: usize, end: usize) {
     if let Some(part) = text.get(first..end) {
         to.put(part);
     }
 }
 
-/// Puts a text on a page of XML.
+/// Appends a text on a page of XML.
 pub fn put_escaped(to: &mut Page, text: &str) {
     let text = text.as_bytes();
     let mut first = 0;
@@ -66,7 +65,7 @@ pub fn put_escaped(to: &mut Page, text: &str) {
     put_part(to, text, first, text.len());
 }
 
-/// Takes what was put on a page as a text, and begins the page anew.
+/// Returns the contents of a page as a text, and empties the page.
 pub fn take_text(alloc: Global, page: &mut Page) -> Result<String, AllocError> {
     let mut bytes = Vec::new(alloc);
     if page.write(&mut bytes).is_err() {
@@ -78,7 +77,7 @@ pub fn take_text(alloc: Global, page: &mut Page) -> Result<String, AllocError> {
     }
 }
 
-/// Words that are put together before they are put on a page.
+/// Words that are joined before they are written on a page.
 #[derive(Drop)]
 pub struct Words {
     alloc: Global,
@@ -86,18 +85,18 @@ pub struct Words {
 }
 
 impl Words {
-    /// Returns no words. AllocError where memory was refused.
+    /// Returns an empty list of words. `AllocError` if an allocation fails.
     pub fn new(alloc: Global) -> Result<Words, AllocError> {
         let page = Page::new(alloc)?;
         Ok(Words { alloc, page })
     }
 
-    /// Takes the words as a text, and begins anew.
+    /// Returns the words as a text, and empties the list.
     pub fn take(&mut self) -> Result<String, AllocError> {
         take_text(self.alloc, &mut self.page)
     }
 
-    /// Takes the words as a text of at most so many columns, and begins anew.
+    /// Returns the words as a text of at most `most` columns, and empties the list.
     pub fn take_cut(&mut self, most: u64) -> Result<String, AllocError> {
         let text = self.take()?;
         cut(self.alloc, text.as_str(), most)

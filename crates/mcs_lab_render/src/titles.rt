@@ -1,4 +1,4 @@
-//! The title of a picture, as its script says it.
+//! The title of a picture, from its script.
 use crate::texts::{cut, take_text};
 use mcs_lab_inspect::Page;
 use mcs_text::Lines;
@@ -8,7 +8,8 @@ use std::str;
 /// The most columns of a title.
 const TITLE_COLUMNS: u64 = 200;
 
-/// Returns what a comment says: a line that begins with `#` and a blank, and has more than blanks.
+/// Returns the text of a comment: a line that begins with `#` and a blank, and has more than
+/// blanks.
 fn comment_of(line: &[u8]) -> Option<&str> {
     let [b'#', b' ', rest @ ..] = line else {
         return None;
@@ -20,7 +21,8 @@ fn comment_of(line: &[u8]) -> Option<&str> {
     if words.is_empty() { None } else { Some(words) }
 }
 
-/// Puts a line of a comment up to the end of its first sentence. True where that is in it.
+/// Appends a line of a comment up to the end of its first sentence. Returns true if the sentence
+/// ends there.
 fn put_sentence(to: &mut Page, words: &str) -> bool {
     if let Some((sentence, _)) = words.split_once(". ") {
         to.put(sentence.as_bytes());
@@ -30,7 +32,7 @@ fn put_sentence(to: &mut Page, words: &str) -> bool {
     words.ends_with(".")
 }
 
-/// Puts the first sentence of the first comment, without its full stop; nothing where there is no
+/// Appends the first sentence of the first comment, without its full stop; nothing if there is no
 /// comment.
 fn put_first_sentence(to: &mut Page, text: &[u8]) {
     let mut has_begun = false;
@@ -55,7 +57,7 @@ fn put_first_sentence(to: &mut Page, text: &[u8]) {
     }
 }
 
-/// Returns whether a text has lines that say what a step answered, as traces have.
+/// Returns whether a text has lines with answers of steps, as traces have.
 fn is_trace(text: &[u8]) -> bool {
     let mut lines = Lines::new(text);
     for _ in 0..=text.len() {
@@ -68,7 +70,7 @@ fn is_trace(text: &[u8]) -> bool {
     false
 }
 
-/// Says what kind of file a script is.
+/// Returns what kind of file a script is.
 fn kind_of(text: &[u8]) -> &'static str {
     if is_trace(text) {
         "A trace of mcssim"

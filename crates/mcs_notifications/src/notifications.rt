@@ -14,7 +14,7 @@ use std::alloc::Global;
 use std::marker::Model;
 
 /// A notification: its pending word, the thread bound to it (manual: Notifications), and the
-/// context that is homed at it (own).
+/// context homed at it (own).
 #[derive(Clone, Copy)]
 pub struct NotificationRow {
     word: Option<u64>,
@@ -29,7 +29,7 @@ pub struct Notifications {
     rows: Store<NotificationRow>,
 }
 
-// By hand, so that it is a function of its own: a derived drop would be proved anew wherever it is
+// Written by hand as a separate function: a derived drop would be proved again wherever it is
 // dropped.
 impl Drop for Notifications {
     fn drop(self) {
@@ -47,7 +47,7 @@ impl Model for Notifications {
     ghost invariant = { λ s. AreSignals (record { rows = s.rows }) };
 }
 
-/// A word with the bits of one more badge.
+/// Returns a word with the bits of one more badge.
 fn with_badge(badge: Badge, word: Option<u64>) -> u64
     ensures { result ≡ with_badge badge.0 word }
 {
@@ -58,7 +58,7 @@ fn with_badge(badge: Badge, word: Option<u64>) -> u64
 }
 
 impl Notifications {
-    /// No notification, and room for 256 (own).
+    /// Returns a table without notifications, with room for 256 (own).
     pub fn new(alloc: Global) -> Result<Notifications, OutOfMemory>
         ensures counts { IfOk result (λ v. counts v ≡ empty_shape Kind.Notification object_limit) }
         ensures there { IfOk result (λ v. (n : ObjId) → is_there v n ≡ false) }
@@ -77,7 +77,7 @@ impl Notifications {
         rows
     }
 
-    /// Clones the table in the memory of a spare one (own). OutOfMemory where memory is refused.
+    /// Clones the table in the memory of a spare one (own). `OutOfMemory` if an allocation fails.
     pub fn copy(
         &self,
         alloc: Global,
@@ -94,7 +94,7 @@ impl Notifications {
         })
     }
 
-    /// Adds a notification where there is room: its serial is the next, no word is pending, and it
+    /// Adds a notification; there must be room. Its serial is the next, no word is pending, and it
     /// is bound to no thread (own).
     pub fn add(&mut self) -> ObjId
         requires { no_room self.old ≡ false }
@@ -107,7 +107,7 @@ impl Notifications {
         ensures threads { (n : ObjId) → thread_in self.new n ≡ thread_in self.old n }
         ensures homed { (n : ObjId) → homed_in self.new n ≡ homed_in self.old n }
     {
-        // A law for the proof: what is there was given, so the next serial is new.
+        // For the proof: existing objects were given serials, so the next serial is new.
         self.rows.are_apart();
         self.rows.add(NotificationRow {
             word: None,
@@ -116,8 +116,8 @@ impl Notifications {
         })
     }
 
-    /// Forgets a notification that is bound to no thread, and its word, if one is pending: its
-    /// serial is never reused (manual: Kernel Services and Objects).
+    /// Removes a notification that is bound to no thread, with its word. Its serial is never reused
+    /// (manual: Kernel Services and Objects).
     pub fn close(&mut self, notification: ObjId)
         requires there { is_there self.old notification ≡ true }
         requires unbound { thread_in self.old notification ≡ None }
@@ -131,15 +131,15 @@ impl Notifications {
         self.rows.remove(notification);
     }
 
-    /// What is kept of each notification: how many were made and are there, and whether there is
-    /// room for one more (own).
+    /// Returns the row of each notification; it tells how many were made and exist, and whether
+    /// there is room for one more (own).
     pub fn rows(&self) -> &Store<NotificationRow>
         ensures { result.now ≡ self.now.rows }
     {
         &self.rows
     }
 
-    /// What is kept of a notification that is there.
+    /// Returns the row of an existing notification.
     fn row(&self, notification: ObjId) -> NotificationRow
         requires { is_there self.now notification ≡ true }
         ensures { value_at self.now.rows notification ≡ Some result }
@@ -150,23 +150,23 @@ impl Notifications {
         }
     }
 
-    /// Whether a notification was made and not closed (own).
+    /// Returns whether a notification was made and not closed (own).
     pub fn is_there(&self, notification: ObjId) -> bool
         ensures { result ≡ is_there self.now notification }
     {
         self.rows.get(notification).is_some()
     }
 
-    /// Returns the pending word of a notification; None where none is pending, or where the
-    /// notification does not exist (manual: Notifications).
+    /// Returns the pending word of a notification; None if none is pending, or if the notification
+    /// does not exist (manual: Notifications).
     pub fn word(&self, notification: ObjId) -> Option<u64>
         ensures { result ≡ word_in self.now notification }
     {
         self.rows.get(notification)?.word
     }
 
-    /// Adds the bits of a badge to the pending word of a notification that is there. Where no word
-    /// was pending, the badge is the word, even if it is 0 (manual: Notifications).
+    /// Adds the bits of a badge to the pending word of an existing notification. If no word was
+    /// pending, the badge is the word, even if it is 0 (manual: Notifications).
     pub fn raise(&mut self, notification: ObjId, badge: Badge)
         requires { is_there self.old notification ≡ true }
         ensures counts { counts self.new ≡ counts self.old }
@@ -180,8 +180,8 @@ impl Notifications {
         self.rows.set(notification, NotificationRow { word, ..row });
     }
 
-    /// Clears the pending word of a notification, and gives it; None, and nothing changes, where
-    /// none was pending, and where the notification is not there (manual: Notifications).
+    /// Clears and returns the pending word of a notification. Returns None, and changes nothing, if
+    /// none was pending or the notification does not exist (manual: Notifications).
     pub fn hear(&mut self, notification: ObjId) -> Option<u64>
         ensures word { result ≡ word_in self.old notification }
         ensures counts { counts self.new ≡ counts self.old }
@@ -196,15 +196,15 @@ impl Notifications {
         row.word
     }
 
-    /// The thread to which a notification is bound, or None where it is bound to none, and where it
-    /// is not there (manual: Notifications).
+    /// The thread to which a notification is bound, or None if it is bound to none, and if it does
+    /// not exist (manual: Notifications).
     pub fn bound(&self, notification: ObjId) -> Option<ObjId>
         ensures { result ≡ thread_in self.now notification }
     {
         self.rows.get(notification)?.thread
     }
 
-    /// Binds a notification that is there to this thread, or to none (manual: Notifications).
+    /// Binds an existing notification to this thread, or to none (manual: Notifications).
     pub fn set_bound(&mut self, notification: ObjId, thread: Option<ObjId>)
         requires { is_there self.old notification ≡ true }
         ensures counts { counts self.new ≡ counts self.old }
@@ -218,15 +218,15 @@ impl Notifications {
             .set(notification, NotificationRow { thread, ..row });
     }
 
-    /// The context that is homed at a notification, or None where none is, and where it is not
-    /// there (own).
+    /// The context that is homed at a notification, or None if none is, and if it does not exist
+    /// (own).
     pub fn homed(&self, notification: ObjId) -> Option<ObjId>
         ensures { result ≡ homed_in self.now notification }
     {
         self.rows.get(notification)?.homed
     }
 
-    /// Sets the context that is homed at a notification that is there, or clears it (own).
+    /// Sets the context that is homed at an existing notification, or clears it (own).
     pub fn set_homed(&mut self, notification: ObjId, homed: Option<ObjId>)
         requires { is_there self.old notification ≡ true }
         ensures counts { counts self.new ≡ counts self.old }

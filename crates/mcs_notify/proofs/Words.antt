@@ -52,7 +52,7 @@ bound-silent R t none = go (bound_of R t) (pending_of_any R (bound_of R t)) none
 pub bound-allowed : (R : Log) (t n : ObjId) (word : ℕ) → Sound R → bound_of R t ≡ Some n → pending R n ≡ Some word → Allowed R (rec.Heard t n word)
 bound-allowed R t n word sound bound is = ((bound-there R t n sound bound).0, is, λ u other. bound-one R u t n sound other bound)
 
--- nobody else is bound where t may wait
+-- no other thread is bound where t may wait
 pub may_wait-alone : (R : Log) (t n : ObjId) → Sound R → not (bound_elsewhere (tied_to R n) t) ≡ true → NoneElseBound R n t
 may_wait-alone R t n sound may = go (tied_to R n) refl may
   where

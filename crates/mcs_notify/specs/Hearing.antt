@@ -34,7 +34,7 @@ first_waiter R n = option_map (waiter n) (first_in R (Waiters n))
 abbrev pub next_hearer : Log → ObjId → Option Hearer
 next_hearer R n = option_or (bound_receiver R n) (first_waiter R n)
 
--- nobody where a word is pending
+-- no thread where a word is pending
 abbrev pub unless_pending : Option ℕ → Option Hearer → Option Hearer
 unless_pending (Some word) hearer = None
 unless_pending None hearer = hearer
@@ -51,6 +51,6 @@ left_by h = say (Parts h.thread h.queue)
 unfoldable pub goes_on : ObjId → ℕ → Hearer → Piece
 goes_on n word h = say (Heard h.thread n word) then left_by h then say (Turns h.thread Running)
 
--- so it does, with the context that is homed at n, where that is spare
+-- a hearer hears the word of n, and takes the context that is homed at n where that is spare
 abbrev pub heard_by : ObjId → ℕ → Hearer → Piece
 heard_by n word h = wake n h.thread h.queue word

@@ -14,7 +14,7 @@ use Rattle.mcs_state.specs.declared.changing.Change.{Change}
 use Rattle.mcs_state.specs.declared.changing.Change.TheVariants.{Ties}
 
 -- a thread and a notification that were found, of which the first is tested first, where neither is
--- bound, and nobody waits
+-- bound, and no thread waits
 abbrev pub tied : Log → Checked ObjId → Checked ObjId → Checked Change
 tied R (Err why) notification = Err why
 tied R (Ok x) (Err why) = Err why

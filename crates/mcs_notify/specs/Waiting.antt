@@ -8,7 +8,7 @@ use Rattle.mcs_book.specs.Notifications.{bound_of}
 use Rattle.mcs_book.specs.Pieces.{Piece}
 use Rattle.mcs_book.specs.Receiving.{pending_of_any}
 
--- n is bound to nobody but t
+-- n is bound to no thread but t
 abbrev pub NoneElseBound : Log → ObjId → ObjId → Type 0
 NoneElseBound R n t = (u : ObjId) → bound_of R u ≡ Some n → u ≡ t
 

@@ -12,8 +12,8 @@ use mcs_object_queues::Waiting;
 use mcs_state::{Change, State, change_awake, find_object, of_kind, with_read};
 use mcs_types::{CoreId, Kind, ObjId, Queue, Refusal};
 
-/// What a bind changes: the thread has no notification, and the notification is bound to nobody,
-/// and nobody waits on it.
+/// Returns the binding to make, if the thread has no notification, the notification is bound to no
+/// thread, and no thread waits on it.
 fn tie_to_make<W: Waiting>(
     state: &State<W>,
     thread: ObjId,
@@ -37,7 +37,7 @@ fn tie_to_make<W: Waiting>(
     })
 }
 
-/// What an unbind changes: the thread has a notification.
+/// Returns the binding to end, if the thread has a notification.
 fn tie_to_end<W: Waiting>(state: &State<W>, thread: ObjId, holder: u64) -> Result<Change, Refusal>
     requires { IsThere (so_far state.now) Kind.Thread thread }
     ensures { result ≡ unbindable (so_far state.now) thread holder }
@@ -53,9 +53,9 @@ fn tie_to_end<W: Waiting>(state: &State<W>, thread: ObjId, holder: u64) -> Resul
 }
 
 /// Performs BindNtfn: the notification is bound to the thread. The refusals are 1 to 3 of the
-/// lookups, the thread's first, 4 for a capability of another kind, 5 where the notification's
-/// lacks Read, and 9 where the thread has a notification, the notification is bound, or a thread
-/// waits on it (own); they change nothing (manual: Notifications).
+/// lookups, the thread's first, 4 for a capability of another kind, 5 if the notification's lacks
+/// Read, and 9 if the thread has a notification, the notification is bound, or a thread waits on it
+/// (own); they change nothing (manual: Notifications).
 pub fn bind<W: Waiting>(
     state: &mut State<W>,
     core: CoreId,

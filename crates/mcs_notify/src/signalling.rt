@@ -18,14 +18,14 @@ use mcs_object_queues::Waiting;
 use mcs_state::{State, give_back, of_kind, wake, with_write};
 use mcs_types::{Badge, Cap, CoreId, Kind, Mode, ObjId, Queue, Refusal};
 
-/// A thread that a word reaches, and the queue in which it is.
+/// A thread that hears a word, and the queue that it is in.
 #[derive(Clone, Copy)]
 pub struct Hearer {
     pub thread: ObjId,
     pub queue: Queue,
 }
 
-/// The thread to which a notification is bound, where it is queued among the receivers of an
+/// Returns the thread to which a notification is bound, if it is queued among the receivers of an
 /// endpoint.
 fn bound_receiver<W: Waiting>(state: &State<W>, notification: ObjId) -> Option<Hearer>
     ensures { result ≡ bound_receiver (so_far state.now) notification }
@@ -47,8 +47,8 @@ fn first_waiter<W: Waiting>(state: &State<W>, notification: ObjId) -> Option<Hea
     Some(Hearer { thread, queue })
 }
 
-/// The thread that hears the next word of a notification: the bound thread where it receives, else
-/// the first waiter.
+/// Returns the thread that hears the next word of a notification: the bound thread if it receives
+/// on an endpoint, else the first waiter.
 fn next_hearer<W: Waiting>(state: &State<W>, notification: ObjId) -> Option<Hearer>
     ensures { result ≡ next_hearer (so_far state.now) notification }
 {
@@ -58,7 +58,7 @@ fn next_hearer<W: Waiting>(state: &State<W>, notification: ObjId) -> Option<Hear
     }
 }
 
-/// The thread that a signal reaches: none where a word is pending.
+/// Returns the thread that a signal reaches; None if a word is pending.
 fn reached<W: Waiting>(state: &State<W>, notification: ObjId) -> Option<Hearer>
     requires { IsThere (so_far state.now) Kind.Notification notification }
     ensures { result ≡ reached (so_far state.now) notification }
@@ -78,8 +78,7 @@ fn leave<W: Waiting>(state: &mut State<W>, hearer: &Hearer)
     state.parts(hearer.thread, hearer.queue);
 }
 
-/// The context that is homed at a notification, where nobody holds it and it came along no call
-/// that has not ended (own).
+/// Returns the context homed at a notification, if no thread holds it and its chain is empty (own).
 fn spare_context<W: Waiting>(state: &State<W>, notification: ObjId) -> Option<ObjId>
     ensures { result ≡ if_spare (so_far state.now) (homed_at (so_far state.now) notification) }
 {
@@ -105,9 +104,9 @@ fn go_on<W: Waiting>(state: &mut State<W>, notification: ObjId, word: u64, heare
     state.turns(hearer.thread, Mode::Running);
 }
 
-/// Gives a hearer the word, takes it out of its queue, and lets it run. The context that is homed
-/// at the notification wakes with it, where nobody holds that and it came along no call that has
-/// not ended, and where the hearer holds none (own).
+/// Gives a hearer the word, takes it out of its queue, and lets it run. It gets the context homed
+/// at the notification, if no thread holds that, its chain is empty, and the hearer holds none
+/// (own).
 fn hear<W: Waiting>(state: &mut State<W>, notification: ObjId, word: u64, hearer: &Hearer)
     requires stands { queue_of (so_far state.old) hearer.now.thread ≡ Some hearer.now.queue }
     requires pending { pending (so_far state.old) notification ≡ Some word }
@@ -121,10 +120,10 @@ fn hear<W: Waiting>(state: &mut State<W>, notification: ObjId, word: u64, hearer
     give_back(state, context, hearer.thread);
 }
 
-/// Signals a notification with a badge, whose bits are added to the word. Where no word was
-/// pending, somebody hears it: the bound thread if it receives on an endpoint, else the first
-/// waiter. It leaves its queue, and runs (manual: Notifications), with the context that is homed at
-/// the notification, where that is free (own).
+/// Signals a notification with a badge, whose bits are added to the word. If no word was pending, a
+/// thread hears it: the bound thread if it receives on an endpoint, else the first waiter. It
+/// leaves its queue and runs (manual: Notifications), with the context homed at the notification if
+/// that is free (own).
 pub fn signal<W: Waiting>(state: &mut State<W>, notification: ObjId, badge: Badge)
     requires there { IsThere (so_far state.old) Kind.Notification notification }
     requires waiting { OnlyBoundWait (so_far state.old) }
@@ -140,7 +139,7 @@ pub fn signal<W: Waiting>(state: &mut State<W>, notification: ObjId, badge: Badg
     }
 }
 
-/// The capability over which a thread signals.
+/// Returns the capability over which a thread signals.
 fn cap_to_signal<W: Waiting>(state: &State<W>, thread: ObjId, address: u64) -> Result<Cap, Refusal>
     requires { IsThere (so_far state.now) Kind.Thread thread }
     ensures { result ≡ signalable (so_far state.now) thread address }
@@ -149,7 +148,7 @@ fn cap_to_signal<W: Waiting>(state: &State<W>, thread: ObjId, address: u64) -> R
 }
 
 /// Performs Signal: the notification is signalled with the badge of the capability. The refusals
-/// are 1 to 3 of the lookup, 4 for a capability of another kind, and 5 where Write is missing; they
+/// are 1 to 3 of the lookup, 4 for a capability of another kind, and 5 if Write is missing; they
 /// change nothing (manual: Notifications).
 pub fn signal_at<W: Waiting>(
     state: &mut State<W>,

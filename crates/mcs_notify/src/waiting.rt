@@ -1,4 +1,4 @@
-//! Waits, and words that are pending for the bound thread.
+//! Waits, and pending words of the bound thread.
 ghost use Rattle.std.specs.Prelude.{◌≡◌, not};
 ghost use Rattle.mcs_types.specs.declared.id.Kind.{Kind};
 ghost use Rattle.mcs_book.specs.Notifications.{bound_of, tied_to};
@@ -13,7 +13,7 @@ use mcs_object_queues::Waiting;
 use mcs_state::{State, stand};
 use mcs_types::{Answer, ObjId, Queue};
 
-/// Whether a thread may wait on a notification: only the bound thread may, where one is bound
+/// Returns whether a thread may wait on a notification: only the bound thread may, if one is bound
 /// (manual: Notifications; own).
 pub fn may_wait<W: Waiting>(state: &State<W>, thread: ObjId, notification: ObjId) -> bool
     ensures { result ≡ not (bound_elsewhere (tied_to (so_far state.now) notification) thread) }
@@ -24,9 +24,9 @@ pub fn may_wait<W: Waiting>(state: &State<W>, thread: ObjId, notification: ObjId
     }
 }
 
-/// Takes the pending word of a notification. Where none is pending, the thread waits if it blocks,
-/// and otherwise the answer is Empty. Nobody else is bound to the notification (manual:
-/// Notifications). A thread that waits gives up its context where that is homed at the notification
+/// Takes the pending word of a notification. If none is pending, the thread waits if it blocks, and
+/// otherwise the answer is Empty. The notification must not be bound to another thread (manual:
+/// Notifications). A waiting thread gives up its context if that is homed at the notification
 /// (own).
 pub fn wait<W: Waiting>(
     state: &mut State<W>,
@@ -60,8 +60,8 @@ pub fn wait<W: Waiting>(
     }
 }
 
-/// Takes the pending word of the notification that is bound to a thread. There is none where no
-/// notification is bound, or none of its words is pending (manual: Notifications).
+/// Takes the pending word of the notification bound to a thread; None if no notification is bound
+/// or no word is pending (manual: Notifications).
 pub fn take_bound<W: Waiting>(state: &mut State<W>, thread: ObjId) -> Option<u64>
     requires { HasRoomFor (takes_bound thread) state.old }
     ensures word { result ≡ pending_of_any (so_far state.old) (bound_of (so_far state.old) thread) }

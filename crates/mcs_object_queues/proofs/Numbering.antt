@@ -220,7 +220,7 @@ module _ (num : Queue → Option ℕ) (que : ℕ → Option Queue) (iso : IsNumb
           let q = has-queue que line place a u k e in
           ap (λ o. behind_in o (λ q. lined line (num q)) t) q.1 ∙ ap (λ n. behind t (lined line n)) (iso.back k q.0 q.1) ∙ behind-map t u (line k) who
 
--- an object comes or goes, and nobody moves
+-- an object comes or goes, and no thread moves
 module _ (num later : Queue → Option ℕ) (que after : ℕ → Option Queue) (old : IsNumbering num que) (new : IsNumbering later after) (line : ℕ → List Waiter) (place : ℕ → Option ℕ) (a : IsLined que line place) where
   -- more queues have numbers
   module _ (grows : (q : Queue) (n : ℕ) → num q ≡ Some n → later q ≡ Some n) where
@@ -264,7 +264,7 @@ module _ (num later : Queue → Option ℕ) (que after : ℕ → Option Queue) (
         go None = refl
         go (Some u) = at u (place u) refl
 
-  -- fewer queues have numbers, and nobody is in the others
+  -- fewer queues have numbers, and no thread is in the others
   module _ (shrinks : (q : Queue) (n : ℕ) → later q ≡ Some n → num q ≡ Some n) (empty : (q : Queue) (n : ℕ) → num q ≡ Some n → later q ≡ None → line n ≡ []) where
     pub shrunk : IsLined after line place
     shrunk = record { stands = a.stands; vacant = λ k h. go k h (que k) refl; beyond = a.beyond }

@@ -332,7 +332,7 @@ unmapped : (vs : List Waiter) → map standing vs ≡ [] → vs ≡ []
 unmapped [] h = refl
 unmapped (v ∷ vs) h = absurd cc
 
--- nobody is in a line whose queue loses its number
+-- no thread is in a line whose queue loses its number
 pub lost-empty : {T : Type 0} (E N E' N' : Objects T) (id : ObjId) (line : ℕ → List Waiter) → Closes E N E' N' id → ((q : Queue) → is_queue_of id q ≡ true → line_of E N line q ≡ [])
     → (q : Queue) (m : ℕ) → number_of E N q ≡ Some m → number_of E' N' q ≡ None → line m ≡ []
 lost-empty E N E' N' id line change empty q m h k = unmapped (line m) (sym (ap (λ o. lined line o) h) ∙ empty q (change.lost q m h k))

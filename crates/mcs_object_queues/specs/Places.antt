@@ -79,7 +79,7 @@ pub record IsRoomy {T : Type 0} (kind : Kind) (S : Objects T) : Type 0 where
   pub kind_is : S.kind ≡ kind
   pub room_is : S.room ≡ 256
 
--- each thread is where it is placed, and nobody is in a line without a queue
+-- each thread is where it is placed, and no thread is in a line without a queue
 pub record IsLined (que : ℕ → Option Queue) (line : ℕ → List Waiter) (place : ℕ → Option ℕ) : Type 0 where
   pub stands : (u k : ℕ) → stands_in u (line k) ≡ is_place (place u) k
   pub vacant : (k : ℕ) → que k ≡ None → line k ≡ []

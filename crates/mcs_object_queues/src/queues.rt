@@ -14,24 +14,24 @@ use mcs_types::{Kind, OBJECTS, ObjId, OutOfMemory, Prio, Queue};
 use std::alloc::Global;
 use std::marker::Model;
 
-/// The first line of receivers, and the first of waiters: those of senders begin at 0.
+/// The first line of receivers, and the first of waiters; the lines of senders begin at 0.
 const RECEIVERS: u16 = OBJECTS;
 
 const WAITERS: u16 = 2 * OBJECTS;
 
-/// How many lines there are.
+/// The number of lines.
 const LINES: u16 = 3 * OBJECTS;
 
-/// Queues over lines with numbers: the line of a queue goes by the place of its object, which the
-/// next object in that place gets again. An object is forgotten only where nobody is in its queues,
-/// so a line is empty while its place is vacant (own).
+/// The queues of endpoints and notifications, each as a numbered line of `L`. The number follows
+/// from the place of the object in its store, which a later object can reuse. An object is removed
+/// only if its queues are empty, so the lines of a vacant place are empty (own).
 pub struct ObjectQueues<L: Lines> {
     endpoints: Store<()>,
     notifications: Store<()>,
     lines: L,
 }
 
-// By hand, so that it is a function of its own: a derived drop would be proved anew wherever it is
+// Written by hand as a separate function: a derived drop would be proved again wherever it is
 // dropped.
 impl<L: Lines> Drop for ObjectQueues<L> {
     fn drop(self) {
@@ -58,7 +58,7 @@ impl<L: Lines> Model for ObjectQueues<L> {
         (L.line s.lines) (L.place s.lines) (L.rooms s.lines) };
 }
 
-/// The number of a thread of a serial from 1 to 256.
+/// Returns the number of a thread with a serial from 1 to 256.
 fn thread_no(thread: ObjId) -> Option<ThreadNo>
     ensures { thread_number result ≡ below_room (place_of Kind.Thread thread) }
 {
@@ -80,8 +80,8 @@ fn thread_id(thread: ThreadNo) -> ObjId
     }
 }
 
-/// The number of the line of a queue, if its object is there.
-// a part of its callers, which know the kind of the queue
+/// Returns the number of the line of a queue, if its object exists.
+// inlined: callers know the kind of the queue
 #[inline(always)]
 fn line_no(endpoints: &Store<()>, notifications: &Store<()>, queue: Queue) -> Option<LineNo>
     requires endpoints { (shape endpoints.now).room ≤ 256 }
@@ -189,7 +189,7 @@ impl<L: Lines> Waiting for ObjectQueues<L> {
     }
 
     fn open(&mut self, kind: Kind) -> ObjId {
-        // Laws for the proof: a place tells its object, before and after.
+        // For the proof: a place identifies its object, before and after.
         self.endpoints.are_apart();
         self.notifications.are_apart();
         let object = match kind {
@@ -203,7 +203,7 @@ impl<L: Lines> Waiting for ObjectQueues<L> {
     }
 
     fn close(&mut self, object: ObjId) {
-        // Laws for the proof: a place tells its object, before and after.
+        // For the proof: a place identifies its object, before and after.
         self.endpoints.are_apart();
         self.notifications.are_apart();
         match object.kind {
@@ -215,10 +215,10 @@ impl<L: Lines> Waiting for ObjectQueues<L> {
         self.notifications.are_apart();
     }
 
-    // a part of its callers, which know the kind of the queue
+    // inlined: callers know the kind of the queue
     #[inline(always)]
     fn join(&mut self, thread: ObjId, into: Queue, priority: Prio) {
-        // Laws for the proof: a place tells its object.
+        // For the proof: a place identifies its object.
         self.endpoints.are_apart();
         self.notifications.are_apart();
         let line = line_no(&self.endpoints, &self.notifications, into);
@@ -249,7 +249,7 @@ impl<L: Lines> Waiting for ObjectQueues<L> {
     }
 
     fn next(&self, thread: ObjId) -> Option<ObjId> {
-        // Laws for the proof: a place tells its object.
+        // For the proof: a place identifies its object.
         self.endpoints.are_apart();
         self.notifications.are_apart();
         let number = thread_no(thread)?;

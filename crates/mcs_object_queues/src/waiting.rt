@@ -1,4 +1,4 @@
-//! Queues in which threads wait, by ids.
+//! The interface of the queues, by ids.
 ghost use Rattle.std.specs.Prelude.{ℕ, ◌≡◌, ◌+◌, ◌||◌, Bool, true, false, List, [], Option, Some, None, IfOk};
 ghost use Rattle.mcs_types.specs.declared.id.ObjId.{ObjId};
 ghost use Rattle.mcs_types.specs.declared.id.Kind.{Kind};
@@ -18,24 +18,24 @@ use std::alloc::Global;
 ///
 /// All is seen by ids. `new` takes the memory for all calls.
 pub trait Waiting: Sized + Drop {
-    /// The threads of a queue with their priorities, first to last; nobody where its object is not
-    /// there.
+    /// The threads of a queue with their priorities, first to last; none if its object does not
+    /// exist.
     ghost line: { Self → Queue → List Waiter };
 
     /// The queue in which a thread is.
     ghost queue: { Self → ObjId → Option Queue };
 
-    /// Whether the object of a queue is there.
+    /// Whether the object of a queue exists.
     ghost has: { Self → Queue → Bool };
 
     /// How many objects of a kind were made: their serials count from 1.
     ghost given: { Self → Kind → ℕ };
 
-    /// How many objects of a kind are there.
+    /// How many objects of a kind exist.
     ghost there: { Self → Kind → ℕ };
 
-    /// No object, and no thread that waits. OutOfMemory where memory is refused: no later call
-    /// takes any (own).
+    /// Returns queues without objects and threads. `OutOfMemory` if an allocation fails: no later
+    /// call allocates (own).
     fn new(alloc: Global) -> Result<Self, OutOfMemory>
         ensures line { IfOk result (λ s. (q : Queue) → line s q ≡ []) }
         ensures queue { IfOk result (λ s. (t : ObjId) → queue s t ≡ None) }
@@ -43,23 +43,24 @@ pub trait Waiting: Sized + Drop {
         ensures given { IfOk result (λ s. (k : Kind) → given s k ≡ 0) }
         ensures there { IfOk result (λ s. (k : Kind) → there s k ≡ 0) };
 
-    /// How many objects of a kind were made; 0 of a kind that has no queues (own).
+    /// Returns how many objects of a kind were made; 0 of a kind that has no queues (own).
     fn made(&self, kind: Kind) -> u32
         ensures { result ≡ given self.now kind };
 
-    /// How many objects of a kind are there; 0 of a kind that has no queues (own).
+    /// Returns how many objects of a kind exist; 0 of a kind that has no queues (own).
     fn count(&self, kind: Kind) -> usize
         ensures { result ≡ there self.now kind };
 
-    /// Whether no object of a kind can be made: 256 are there, or each serial was given (own).
+    /// Returns whether no object of a kind can be made: 256 exist, or the last serial was given
+    /// (own).
     fn is_full(&self, kind: Kind) -> bool
         ensures { result ≡ no_room (given self.now kind) (there self.now kind) };
 
-    /// Whether the object of a queue is there (own).
+    /// Returns whether the object of a queue exists (own).
     fn is_there(&self, of: Queue) -> bool
         ensures { result ≡ has self.now of };
 
-    /// Clones the queues in the memory of spare ones. OutOfMemory where memory is refused.
+    /// Clones the queues in the memory of spare ones. `OutOfMemory` if an allocation fails.
     fn copy(&self, alloc: Global, spare: Option<Self>) -> Result<Self, OutOfMemory>
         ensures line { IfOk result (λ s. (q : Queue) → line s q ≡ line self.now q) }
         ensures queue { IfOk result (λ s. (t : ObjId) → queue s t ≡ queue self.now t) }
@@ -67,8 +68,8 @@ pub trait Waiting: Sized + Drop {
         ensures given { IfOk result (λ s. (k : Kind) → given s k ≡ given self.now k) }
         ensures there { IfOk result (λ s. (k : Kind) → there s k ≡ there self.now k) };
 
-    /// Makes an endpoint or a notification, where there is room. Its serial is the next of its
-    /// kind, and nobody is in its queues (own).
+    /// Makes an endpoint or a notification; there must be room. Its serial is the next of its kind,
+    /// and its queues are empty (own).
     fn open(&mut self, kind: Kind) -> ObjId
         requires queued { has_queues kind ≡ true }
         requires room { no_room (given self.old kind) (there self.old kind) ≡ false }
@@ -80,8 +81,8 @@ pub trait Waiting: Sized + Drop {
         ensures given { CountsOneMore (given self.old) (given self.new) kind }
         ensures there { CountsOneMore (there self.old) (there self.new) kind };
 
-    /// Forgets an endpoint or a notification that is there, and in whose queues nobody is: its
-    /// serial is never reused (manual: Kernel Services and Objects).
+    /// Removes an existing endpoint or notification whose queues are empty. Its serial is never
+    /// reused (manual: Kernel Services and Objects).
     fn close(&mut self, object: ObjId)
         requires queued { has_queues object.kind ≡ true }
         requires there { (q : Queue) → is_queue_of object q ≡ true → has self.old q ≡ true }
@@ -90,11 +91,11 @@ pub trait Waiting: Sized + Drop {
         ensures queue { (t : ObjId) → queue self.new t ≡ queue self.old t }
         ensures has { LosesQueues (has self.old) (has self.new) object }
         ensures given { (k : Kind) → given self.new k ≡ given self.old k }
-        // One is there less, and at least one was.
+        // One less exists, and at least one did.
         ensures there { CountsOneMore (there self.new) (there self.old) object.kind };
 
-    /// Puts a thread that is in no queue into one whose object is there, after all of its priority
-    /// (manual: Message Passing).
+    /// Queues a thread that is in no queue, after all of its priority; the queue's object must
+    /// exist (manual: Message Passing).
     fn join(&mut self, thread: ObjId, into: Queue, priority: Prio)
         requires known { IsThread thread }
         requires there { has self.old into ≡ true }
@@ -113,8 +114,8 @@ pub trait Waiting: Sized + Drop {
         ensures given { (k : Kind) → given self.new k ≡ given self.old k }
         ensures there { (k : Kind) → there self.new k ≡ there self.old k };
 
-    /// Gives a thread another priority in its queue, if it is in one: it goes after all of that
-    /// priority, even where it had that priority before (own).
+    /// Sets the priority of a thread in its queue, if it is in one: it goes after all of that
+    /// priority, even if it had that priority before (own).
     fn shift(&mut self, thread: ObjId, priority: Prio)
         ensures line { (q : Queue) → line self.new q ≡ shifted thread priority.0 (line self.old q) }
         ensures queue { (t : ObjId) → queue self.new t ≡ queue self.old t }
@@ -122,13 +123,12 @@ pub trait Waiting: Sized + Drop {
         ensures given { (k : Kind) → given self.new k ≡ given self.old k }
         ensures there { (k : Kind) → there self.new k ≡ there self.old k };
 
-    /// The first thread of a queue. None where nobody is in it, and where its object is not there
+    /// Returns the first thread of a queue; None if the queue is empty or its object does not exist
     /// (manual: Message Passing).
     fn first(&self, of: Queue) -> Option<ObjId>
         ensures { result ≡ head_of (threads_in (line self.now of)) };
 
-    /// The thread after another in its queue. None where it is the last of it or is in no queue
-    /// (own).
+    /// The thread after another in its queue. None if it is the last of it or is in no queue (own).
     fn next(&self, thread: ObjId) -> Option<ObjId>
         ensures { result ≡ behind_in (queue self.now thread) (line self.now) thread };
 }

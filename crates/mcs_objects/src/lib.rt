@@ -1,5 +1,4 @@
-//! Objects of one kind, each under an id that is given once, and what is kept of each elsewhere by
-//! the place of its serial.
+//! Stores of objects of one kind, under ids that are never reused, and tables indexed by serials.
 #![tactic(auto)]
 
 mod full;

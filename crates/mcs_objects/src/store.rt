@@ -1,4 +1,4 @@
-//! A store of objects in a slab, and which serial lies where.
+//! A store of objects: a slab, and the place of each serial.
 ghost use Rattle.std.specs.Prelude.{ℕ, ◌≡◌, ◌<◌, ◌≤◌, ◌↔◌, is_some, IsTrue, IfOk, OnOk, IfErr, OnErr, IsErr, IfNone, OnSome, IsSome, Some, None, false, option_copied, position};
 ghost use Rattle.std.specs.List.{position_or_len};
 ghost use Rattle.std.specs.Option.{option_copied_mut};
@@ -23,8 +23,8 @@ struct Row {
 }
 
 /// Up to 256 objects of one kind, each with a value (own). Serials count from 1 in the order of
-/// making, and none is given twice, so an id whose object was removed finds nothing for good. All
-/// memory is taken when it is made.
+/// making and are never reused, so the id of a removed object finds nothing. All memory is
+/// allocated when it is made.
 #[derive(Drop)]
 pub struct Store<T> {
     kind: Kind,
@@ -52,13 +52,14 @@ impl<T> Model for Store<T> {
     ghost invariant = { λ s. IsSound s.room s.given s.rows.items (vec_capacity s.rows) s.values };
 }
 
-/// Where the row of a serial is, among rows whose serials rise; their number where none has it.
+/// Returns the index of the row with a serial, among rows in ascending order; their number if there
+/// is none.
 #[inline(always)]
 fn position_of(rows: &[Row], serial: u32) -> usize
     requires { Rises 0 rows.now }
     ensures { result ≡ position_or_len (is_of serial) rows.now }
 {
-    // it is where its serial says, until an object that was made before it ends
+    // it is at the index of its serial until an earlier object is removed
     let first = serial.wrapping_sub(1) as usize;
     if first < rows.len() && rows[first].serial == serial {
         return first;
@@ -69,7 +70,7 @@ fn position_of(rows: &[Row], serial: u32) -> usize
     }
 }
 
-/// The same by search, if it is there.
+/// Returns the index of the row with a serial by binary search, if it exists.
 #[inline(never)]
 fn search_row(rows: &[Row], serial: u32) -> Option<usize>
     requires { Rises 0 rows.now }
@@ -81,7 +82,7 @@ fn search_row(rows: &[Row], serial: u32) -> Option<usize>
     }
 }
 
-/// The row of an id among rows of objects of a kind.
+/// Returns the row of an id among the rows of objects of a kind.
 fn find(rows: &[Row], kind: Kind, id: ObjId) -> Option<Row>
     requires { Rises 0 rows.now }
     ensures { result ≡ row_for kind id rows.now }
@@ -97,7 +98,7 @@ fn find(rows: &[Row], kind: Kind, id: ObjId) -> Option<Row>
     }
 }
 
-/// A slab with the same values under the same keys, and room for so many.
+/// Returns a slab with the same values under the same keys, and capacity `room`.
 fn copy_values<T: Clone>(values: &Slab<T>, room: u16) -> Result<Slab<T>, OutOfMemory>
     requires clones { (x y : T) → T.is_clone x y → y ≡ x }
     requires few { slab_len values.now ≤ room }
@@ -126,8 +127,8 @@ impl<T: Clone> Store<T> {
         rows
     }
 
-    /// Clones the store in the memory of a spare one, where a clone of a value equals the value
-    /// (own). OutOfMemory where memory is refused.
+    /// Clones the store in the memory of a spare one; clones of values must equal the values (own).
+    /// `OutOfMemory` if an allocation fails.
     pub fn copy(&self, alloc: Global, spare: Option<Store<T>>) -> Result<Store<T>, OutOfMemory>
         requires clones { (x y : T) → T.is_clone x y → y ≡ x }
         ensures { IfOk result (λ t. t ≡ self.now) }
@@ -150,7 +151,7 @@ impl<T: Clone> Store<T> {
 impl<T: Drop> Store<T> {
     ghost use Rattle.mcs_objects.specs.Lends.{lends_value};
 
-    /// An empty store with room for n objects of this kind, 256 at most (own).
+    /// Returns an empty store with room for n objects of this kind, 256 at most (own).
     pub fn with_room(alloc: Global, kind: Kind, n: u16) -> Result<Store<T>, OutOfMemory>
         requires { n ≤ 256 }
         ensures shape { IfOk result (λ s. shape s ≡ empty_shape kind n) }
@@ -171,7 +172,7 @@ impl<T: Drop> Store<T> {
         })
     }
 
-    /// Proves that the store is a map: its serials rise and were given, and its places differ and
+    /// Proves that the store is a map: its serials ascend and were given, and its places differ and
     /// are below its room.
     fn is_map(&self)
         ensures { IsMap self.now }
@@ -179,15 +180,15 @@ impl<T: Drop> Store<T> {
         let _ = &self.values;
     }
 
-    /// Proves that two objects that are there have different places below the store's room, so a
-    /// place identifies its object. What is there was given (own).
+    /// Proves that two existing objects have different places below the store's room, so a place
+    /// identifies its object. Existing objects were given serials (own).
     pub fn are_apart(&self)
         ensures { HasPlaces self.now }
     {
         self.is_map();
     }
 
-    /// Whether no object can be made: the room is full, or each serial was given (own).
+    /// Returns whether no object can be made: the room is full, or each serial was given (own).
     pub fn is_full(&self) -> bool
         ensures { result ≡ is_full self.now }
     {
@@ -212,22 +213,22 @@ impl<T: Drop> Store<T> {
         }
     }
 
-    /// How many serials were given: each object that was made got one (own).
+    /// Returns how many serials were given, one for each object made (own).
     pub fn given(&self) -> u32
         ensures { result ≡ (shape self.now).given }
     {
         self.given
     }
 
-    /// How many objects are there (own).
+    /// Returns how many objects exist (own).
     pub fn len(&self) -> usize
         ensures { result ≡ (shape self.now).there }
     {
         self.rows.len()
     }
 
-    /// Adds an object where there is room, and takes no memory. Its id has the store's kind and the
-    /// serial after the one given last (own).
+    /// Adds an object without allocating; there must be room. Its id has the store's kind and the
+    /// next serial (own).
     pub fn add(&mut self, value: T) -> ObjId
         requires { is_full self.old ≡ false }
         ensures id { result ≡ next_id self.old }
@@ -239,8 +240,8 @@ impl<T: Drop> Store<T> {
         self.push(value)
     }
 
-    /// Adds an object as `add` does. Refused where the room is full or each serial was given: then
-    /// the value comes back, and the store is as it was (own).
+    /// Adds an object as `add` does. If the room is full or the last serial was given, it hands the
+    /// value back, and changes nothing (own).
     pub fn make(&mut self, value: T) -> Result<ObjId, NoRoom<T>>
         ensures refused { IsErr result ↔ IsTrue (is_full self.old) }
         ensures id { IfOk result (λ id. id ≡ next_id self.old) }
@@ -256,7 +257,7 @@ impl<T: Drop> Store<T> {
         Ok(self.add(value))
     }
 
-    /// The value of an object, or None where it is not there (own).
+    /// The value of an object, or None if it does not exist (own).
     pub fn get(&self, id: ObjId) -> Option<&T>
         ensures { option_copied result ≡ value_at self.now id }
     {
@@ -264,7 +265,7 @@ impl<T: Drop> Store<T> {
         self.values.get(row.place as usize)
     }
 
-    /// Returns the value of an object for writing; None where it is not there (own).
+    /// Returns the value of an object for writing; None if it does not exist (own).
     pub fn get_mut(&mut self, id: ObjId) -> Option<&mut T>
         ensures* writes_back { sem 𝓛 (lends_value T.row self.entry id result) }
         ensures value { option_copied_mut result ≡ value_at self.old id }
@@ -290,7 +291,7 @@ impl<T: Drop> Store<T> {
         self.values.get_mut(place as usize)
     }
 
-    /// Keeps another value for an object that is there (own).
+    /// Keeps another value for an existing object (own).
     pub fn set(&mut self, id: ObjId, value: T)
         requires { IsSome (value_at self.old id) }
         ensures shape { shape self.new ≡ shape self.old }
@@ -317,8 +318,8 @@ impl<T: Drop> Store<T> {
         Some(self.values.remove(row.place as usize))
     }
 
-    /// Takes an object out and gives its value, or None where it is not there: then the store is as
-    /// it was (own).
+    /// Removes an object and returns its value; None, and nothing changes, if it does not exist
+    /// (own).
     pub fn remove(&mut self, id: ObjId) -> Option<T>
         ensures value { result ≡ value_at self.old id }
         ensures shape { OnSome result (IsOneFewer (shape self.old) (shape self.new)) }
@@ -330,8 +331,8 @@ impl<T: Drop> Store<T> {
         self.take(id)
     }
 
-    /// The place of an object, below the store's room, or None where the object is not there. It is
-    /// the same as long as the object is there, and different for two objects that are there (own).
+    /// Returns the place of an object, below the store's room; None if it does not exist. It stays
+    /// the same while the object exists, and differs between existing objects (own).
     pub fn place(&self, id: ObjId) -> Option<u16>
         ensures { result ≡ place_at self.now id }
     {

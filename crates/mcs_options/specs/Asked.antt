@@ -40,7 +40,7 @@ of_file name c = record c { file = Some name }
 abbrev pub explained : Choice → Choice
 explained c = record c { explain = true }
 
--- the file that a word names, where there is one: `-` is the standard input
+-- the file that a word names, if there is one: `-` is the standard input
 abbrev pub named : Option Text → Option Text
 named None = None
 named (Some word) = if bytes_eq word (codes "-") then None else Some word
@@ -55,7 +55,7 @@ meant c = record c { file = named c.file }
 abbrev pub IsEnd : List Text → Type 0
 IsEnd rest = (rest ≡ []) ⊎ (rest ≡ codes "--" ∷ [])
 
--- a machine may have so many cores
+-- a machine may have this many cores
 abbrev pub IsCoreCount : ℕ → Type 0
 IsCoreCount n = (1 ≤ n) × (n ≤ core_limit)
 
@@ -103,7 +103,7 @@ Asks words choice = (is_run : Bool) × (rest : List Text) × (said : Choice) × 
 
 -- ---- what a parse found
 
--- the value of the option `--cores` reads as this number, and where there is no value there is no
+-- the value of the option `--cores` reads as this number, and if there is no value there is no
 -- number
 abbrev pub ReadsCores : Option Text → Option ℕ → Type 0
 ReadsCores None cores = cores ≡ None

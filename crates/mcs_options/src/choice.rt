@@ -5,18 +5,18 @@
 pub enum Task {
     /// Takes the steps of a script one after the other, and writes the trace.
     Replay,
-    /// Runs the users of a script on a machine of so many cores (whatever number the script says,
-    /// where it is None), and writes the trace of its book.
+    /// Runs the users of a script on a machine of this many cores (whatever number the script says,
+    /// if it is None), and writes the trace of its book.
     Run { cores: Option<u8> },
 }
 
 /// What the words of a command line ask for.
 #[derive(Clone, Copy, Debug)]
 pub struct Options<'a> {
-    /// What is done.
+    /// What the program does.
     pub task: Task,
-    /// The file that is read: the standard input, where it is None.
+    /// The file to read; the standard input if None.
     pub file: Option<&'a str>,
-    /// Whether the message of a fault has a second line that explains it.
+    /// Whether a fault is explained on a second line.
     pub explain: bool,
 }

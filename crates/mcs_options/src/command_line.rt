@@ -105,7 +105,7 @@ fn commands<'a>(alloc: Global) -> Result<Command<'a>, Error>
     )
 }
 
-/// What a command does, by its name and what was found in its words.
+/// Returns the task of a command, by its name and its parsed arguments.
 fn task(name: &str, found: &ArgMatches<'_>) -> Task
     ensures { IsTask name.now (rows_of (found_of found.now)) result }
 {
@@ -118,7 +118,7 @@ fn task(name: &str, found: &ArgMatches<'_>) -> Task
     }
 }
 
-/// The file that a word names, where there is one: `-` is the standard input.
+/// Returns the file that a word names: None for `-`, the standard input.
 fn named<'a>(word: Option<&'a str>) -> Option<&'a str>
     ensures { option_map (λ f. f.now) result ≡ named (option_map (λ w. w.now) word.entry) }
 {
@@ -128,7 +128,7 @@ fn named<'a>(word: Option<&'a str>) -> Option<&'a str>
     }
 }
 
-/// What a line that was taken asks for, by what was found in it.
+/// Returns the options of a parsed command line.
 fn chosen<'a>(matches: &ArgMatches<'a>) -> Options<'a>
     ensures { IsChosen (subcommand_rows_of matches.now) (choice_of result) }
 {
@@ -146,18 +146,19 @@ fn chosen<'a>(matches: &ArgMatches<'a>) -> Options<'a>
     }
 }
 
-/// What the words of the command line ask for; the first is the program's name. An error says what
-/// is wrong with them, or has the help or the version that was asked for: it is of a kind that the
-/// rules of the command line give these words, or reports that memory was refused; and where they
-/// give a kind it comes.
+/// Returns what the words of the command line ask for; the first is the program's name. An error
+/// says what is wrong with them, or has the help or the version that was asked for. It is of a kind
+/// that the rules of the command line give these words, or reports a failed allocation; if the
+/// rules give an error, one is returned.
 pub fn options<'a>(alloc: Global, words: &'a [&'a str]) -> Result<Options<'a>, Error>
-    // What is given is what the words ask for, and what they ask for is given.
-    ensures asked { IfOk result (λ given. Asks (map (λ w. w.now) words.entry.now) (choice_of given)) }
+    // The options are exactly those that the words ask for.
+    ensures asked { IfOk result (λ given.
+        Asks (map (λ w. w.now) words.entry.now) (choice_of given)) }
     ensures given { (choice : Choice) → Asks (map (λ w. w.now) words.entry.now) choice
         → Gives choice result }
     ensures choice { IfOk result (λ given. IsChoice given.task) }
 
-    // So it is for the plain lines.
+    // For plain command lines in particular:
     ensures replay { AsksFor words.entry.now (codes "replay") → Gives replays result }
     ensures run { AsksFor words.entry.now (codes "run") → Gives (runs None) result }
     ensures cores { (n : ℕ) → IsCoreCount n → AsksForCores words.entry.now n

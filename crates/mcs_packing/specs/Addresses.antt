@@ -13,12 +13,12 @@ address_of a ws = cond (nat_lt a.0 FIRST_FAR) a.0 (word_at ws (a.0 - FIRST_FAR))
 abbrev pub AddressFits : PackedAddress → List ℕ → Type 0
 AddressFits a ws = a.0 < FIRST_FAR + length ws
 
--- there is room for so many words
+-- there is room for this many words
 pub record HasWordRoom (a : Arena) (n : ℕ) : Type 0 where
   pub words : vec_len a.words + n ≤ vec_capacity a.words
   pub named : vec_len a.words + n ≤ 3 * 2 ^ 30
 
--- an arena after at most so many words more
+-- an arena after at most this many words more
 pub record GrewWords (n : ℕ) (a b : Arena) : Type 0 where
   pub words : GrowsBy a.words.items b.words.items
   pub wide : b.wide ≡ a.wide

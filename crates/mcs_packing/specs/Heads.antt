@@ -24,7 +24,7 @@ AnswerFits (Got len) at ws = IsBadgedAt ws at len
 AnswerFits Heard at ws = at < length ws
 AnswerFits _ at ws = Unit {0}
 
--- an entry that was let in, its answer, and where its records end
+-- an entry that was accepted, its answer, and where its records end
 pub record Entered : Type 0 where
   pub step : Step
   pub answer : Answer

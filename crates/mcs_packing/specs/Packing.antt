@@ -34,7 +34,7 @@ word_at ws at = slice_index_or ws at 0
 abbrev pub serial_behind : List ℕ → ℕ → ℕ
 serial_behind ws at = word_at ws (at + 1)
 
--- the message at a place: its label, and then so many words; after them a badge may be
+-- the message at a place: its label, and then this many words; after them a badge may be
 abbrev pub content_at : List ℕ → ℕ → ℕ → Content
 content_at ws at n = record { label = word_at ws at; words = take n (drop (at + 1) ws) }
 
@@ -54,7 +54,7 @@ plain_cap o rights badge = record { obj = o; rights = rights; badge = record { 0
 abbrev pub guarded_cap : ℕ → ℕ → ℕ → ℕ → Cap
 guarded_cap n rights bits value = record { obj = object CNode n; rights = rights; badge = record { 0 = 0 }; guard = record { bits = bits; value = value } }
 
--- no record that is wide: one that is read where there is none
+-- no wide record: the one that is read if there is none
 abbrev pub no_record : Rec
 no_record = rec.Dropped 0
 
@@ -150,7 +150,7 @@ IsOfMessage (Sent _ _ _ _ _) = Unit {0}
 IsOfMessage (Paid _ _ _ _) = Unit {0}
 IsOfMessage _ = ⊥
 
--- a message of so many words is there
+-- a message of this many words is there
 pub record IsMessageAt (ws : List ℕ) (at len : ℕ) : Type 0 where
   pub ends : at + len < length ws
   pub label : word_at ws at < 2 ^ 52
@@ -199,7 +199,7 @@ abbrev pub AllFit : List Packed → List ℕ → List Rec → Type 0
 AllFit [] ws rs = Unit {0}
 AllFit (p ∷ ps) ws rs = Fits p ws rs × AllFit ps ws rs
 
--- there is room for what so many records keep in the arena, and for a head: a record keeps six
+-- there is room for what this many records keep in the arena, and for a head: a record keeps six
 -- words, and long messages of records may use up the spare words besides; an entry keeps 124 words,
 -- and an answer fewer
 pub record HasRoom (a : Arena) (n : ℕ) : Type 0 where
@@ -208,7 +208,7 @@ pub record HasRoom (a : Arena) (n : ℕ) : Type 0 where
   pub wide : vec_len a.wide + n ≤ vec_capacity a.wide
   pub named_wide : vec_len a.wide + n ≤ 2 ^ 32
 
--- there is room for so many entries and answers, each with a message of any length
+-- there is room for this many entries and answers, each with a message of any length
 pub record HasMessageRoom (a : Arena) (n : ℕ) : Type 0 where
   pub words : vec_len a.words + 124 * n ≤ vec_capacity a.words
   pub named : vec_len a.words + 124 * n ≤ 3 * 2 ^ 30

@@ -1,18 +1,18 @@
-//! Addresses in four bytes each: the large ones are among the words.
+//! Packed addresses, of four bytes; large ones are among the words.
 ghost use Rattle.std.specs.Prelude.{◌≡◌};
 ghost use Rattle.mcs_packing.specs.Addresses.{AddressFits, GrewWords, HasWordRoom, address_of};
 
 use crate::arena::{Arena, keep_one};
 
-/// The first packed address that stands for a place among the words; those below stand for
+/// Packed addresses from this one on stand for positions among the words; smaller ones stand for
 /// themselves.
 const FIRST_FAR: u32 = 1 << 30;
 
-/// An address, packed: itself where it is small, and else the place of its word.
+/// A packed address: the address itself if it is small, and else the position of its word.
 #[derive(Clone, Copy)]
 pub struct PackedAddress(pub u32);
 
-/// The address that a packed one stands for.
+/// Returns the address for a packed one.
 #[inline(always)]
 pub fn address_at(words: &[u64], address: PackedAddress) -> u64
     requires { AddressFits address words.now }
@@ -26,8 +26,8 @@ pub fn address_at(words: &[u64], address: PackedAddress) -> u64
 }
 
 impl Arena {
-    /// Keeps a large address.
-    // out of line, so that an entry with small ones pays for the tests alone
+    /// Stores a large address among the words.
+    // not inlined, so that an entry with small ones pays only for the tests
     #[cold]
     #[inline(never)]
     fn keep_far(&mut self, address: u64) -> PackedAddress
@@ -39,7 +39,7 @@ impl Arena {
         PackedAddress(FIRST_FAR + keep_one(&mut self.words, address))
     }
 
-    /// Packs an address, for which there is room.
+    /// Packs an address; there must be room.
     #[inline(always)]
     pub(crate) fn pack_address(&mut self, address: u64) -> PackedAddress
         requires { HasWordRoom self.old 1 }
@@ -54,7 +54,7 @@ impl Arena {
         }
     }
 
-    /// Packs two addresses, for which there is room.
+    /// Packs two addresses; there must be room.
     #[inline(always)]
     pub(crate) fn pack_two(&mut self, first: u64, second: u64) -> (PackedAddress, PackedAddress)
         requires { HasWordRoom self.old 2 }

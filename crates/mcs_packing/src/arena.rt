@@ -7,10 +7,10 @@ use crate::packed::Packed;
 use mcs_types::{Badge, INLINE_WORDS, Message, OutOfMemory, Rec, copy_rows, emptied};
 use std::alloc::Global;
 
-/// The words that packed records, entries and answers name by their places, and the records that
-/// fit no packed form. A message is kept as its label and its words, and a badge after them where
-/// one is kept with it; a large address is alone. Both lists only grow. `spare` is how many words
-/// the long messages of records may still take beyond six each.
+/// The words that packed records, entries and answers refer to by position, and the records that
+/// fit no packed form. A message is stored as its label and its words, and a badge after them if it
+/// has one; a large address is stored alone. Both lists only grow. `spare` is how many words beyond
+/// six each the long messages of records may still take.
 #[derive(Drop)]
 pub struct Arena {
     pub words: Vec<u64>,
@@ -18,7 +18,7 @@ pub struct Arena {
     pub spare: usize,
 }
 
-/// Clones the records, with room for so many, in the memory of spare ones.
+/// Clones the records, with this capacity, in the memory of spare ones.
 fn copy_records(
     alloc: Global,
     spare: Vec<Rec>,
@@ -37,7 +37,7 @@ fn copy_records(
     Ok(copy)
 }
 
-/// How many words a message has.
+/// Returns how many words a message has.
 pub fn length_of(message: &Message) -> u8
     ensures { result ≡ length message.now.words }
 {
@@ -45,7 +45,7 @@ pub fn length_of(message: &Message) -> u8
     message.words().len() as u8
 }
 
-/// The message of this many words at a place. Four words take no memory.
+/// Returns the message of this many words at a position. At most four words allocate nothing.
 pub fn message_at(alloc: Global, words: &[u64], at: u32, len: u8) -> Result<Message, OutOfMemory>
     requires { IsMessageAt words.now at len }
     ensures { IfOk result (λ m. m ≡ content_at words.now at len) }
@@ -58,7 +58,7 @@ pub fn message_at(alloc: Global, words: &[u64], at: u32, len: u8) -> Result<Mess
     }
 }
 
-/// Whether this message is at a place.
+/// Returns whether this message is at a position.
 #[inline(always)]
 fn is_at(words: &[u64], at: u32, message: &Message) -> bool
     ensures there { IsTrue result → IsMessageAt words.now at (length message.now.words) }
@@ -72,7 +72,7 @@ fn is_at(words: &[u64], at: u32, message: &Message) -> bool
         && &words[place + 1..end] == message.words()
 }
 
-/// Whether this badge follows a message of this length.
+/// Returns whether this badge follows the message at a position.
 fn is_badge_at(words: &[u64], at: u32, message: &Message, badge: Badge) -> bool
     requires { IsMessageAt words.now at (length message.now.words) }
     ensures there { IsTrue result → IsBadgedAt words.now at (length message.now.words) }
@@ -82,14 +82,14 @@ fn is_badge_at(words: &[u64], at: u32, message: &Message, badge: Badge) -> bool
     end < words.len() && words[end] == badge.0
 }
 
-/// How many words a message has beyond those that are in it.
+/// Returns how many words a message has in memory of its own.
 fn long_words(message: &Message) -> usize
     ensures { result ≡ length message.now.words - INLINE_WORDS }
 {
     message.words().len().saturating_sub(INLINE_WORDS)
 }
 
-/// Adds a word, for which there is room.
+/// Adds a word; there must be room.
 fn push_word(words: &mut Vec<u64>, word: u64)
     requires { vec_len words.old < vec_capacity words.old }
     ensures items { words.new.items ≡ words.old.items ++ word ∷ [] }
@@ -99,20 +99,20 @@ fn push_word(words: &mut Vec<u64>, word: u64)
     words.push_reserved(word);
 }
 
-/// Adds words, for which there is room.
+/// Adds words; there must be room.
 fn push_words(words: &mut Vec<u64>, more: &[u64])
     requires { vec_len words.old + length more.now ≤ vec_capacity words.old }
     ensures items { words.new.items ≡ words.old.items ++ more.now }
     ensures capacity { vec_capacity words.old ≤ vec_capacity words.new }
     ensures len { vec_len words.new ≡ vec_len words.old + length more.now }
 {
-    // a message has few words: a call that copies any number of them costs more
+    // a message has few words: a call of a general copy costs more
     for word in more {
         words.push_reserved(*word);
     }
 }
 
-/// Keeps a message, for which there is room, and returns where.
+/// Stores a message, and returns its position; there must be room.
 fn keep_message(words: &mut Vec<u64>, message: &Message) -> u32
     requires room { vec_len words.old + length message.now.words + 1 ≤ vec_capacity words.old }
     requires named { vec_len words.old < 2 ^ 32 }
@@ -130,7 +130,7 @@ fn keep_message(words: &mut Vec<u64>, message: &Message) -> u32
     at
 }
 
-/// Keeps a message and a badge after it, for which there is room, and returns where.
+/// Stores a message and a badge after it, and returns their position; there must be room.
 fn keep_badged(words: &mut Vec<u64>, message: &Message, badge: Badge) -> u32
     requires room { vec_len words.old + length message.now.words + 2 ≤ vec_capacity words.old }
     requires named { vec_len words.old < 2 ^ 32 }
@@ -146,7 +146,7 @@ fn keep_badged(words: &mut Vec<u64>, message: &Message, badge: Badge) -> u32
     at
 }
 
-/// Keeps a word, for which there is room, and returns where.
+/// Stores a word, and returns its position; there must be room.
 pub(crate) fn keep_one(words: &mut Vec<u64>, word: u64) -> u32
     requires room { vec_len words.old < vec_capacity words.old }
     requires named { vec_len words.old < 2 ^ 32 }
@@ -161,7 +161,7 @@ pub(crate) fn keep_one(words: &mut Vec<u64>, word: u64) -> u32
     at
 }
 
-/// Keeps a word and the serial of an object after it, for which there is room, and returns where.
+/// Stores a word and an object's serial after it, and returns their position; there must be room.
 fn keep_two(words: &mut Vec<u64>, word: u64, serial: u32) -> u32
     requires room { vec_len words.old + 2 ≤ vec_capacity words.old }
     requires named { vec_len words.old < 2 ^ 32 }
@@ -178,8 +178,8 @@ fn keep_two(words: &mut Vec<u64>, word: u64, serial: u32) -> u32
 }
 
 impl Arena {
-    /// Clones the words and records, with as much room, in the memory of a spare one. OutOfMemory
-    /// where memory is refused.
+    /// Clones the words and records, with as much capacity, in the memory of a spare one.
+    /// `OutOfMemory` if an allocation fails.
     pub fn copy(&self, alloc: Global, spare: Option<Arena>) -> Result<Arena, OutOfMemory>
         ensures words { IfOk result (λ a. a.words.items ≡ self.now.words.items) }
         ensures wide { IfOk result (λ a. a.wide.items ≡ self.now.wide.items) }
@@ -198,8 +198,8 @@ impl Arena {
         })
     }
 
-    /// Keeps the message of a record, and returns where. None, and nothing changes, where the
-    /// message is long and the spare words are used up.
+    /// Stores the message of a record, and returns its position. Returns None, and changes nothing,
+    /// if the message is long and the spare words are used up.
     pub(crate) fn keep(&mut self, message: &Message) -> Option<u32>
         requires { HasRoom self.old 1 }
         ensures value { IfSome result (λ at. HoldsAt self.new.words.items at message.now) }
@@ -213,7 +213,7 @@ impl Arena {
         Some(keep_message(&mut self.words, message))
     }
 
-    /// Keeps the message of a record and a badge after it, as `keep` does.
+    /// Stores the message of a record and a badge after it, as `keep` does.
     pub(crate) fn keep_with_badge(&mut self, message: &Message, badge: Badge) -> Option<u32>
         requires { HasRoom self.old 1 }
         ensures value { IfSome result (λ at. HoldsAt self.new.words.items at message.now) }
@@ -229,8 +229,8 @@ impl Arena {
         Some(keep_badged(&mut self.words, message, badge))
     }
 
-    /// Keeps the message of an answer and a badge after it, and returns where: at this place, if
-    /// they are there already.
+    /// Stores the message of an answer and a badge after it, and returns their position: `place`,
+    /// if they are there already.
     pub(crate) fn share(&mut self, message: &Message, badge: Badge, place: u32) -> u32
         requires { HasMessageRoom self.old 1 }
         ensures value { HoldsAt self.new.words.items result message.now }
@@ -247,7 +247,7 @@ impl Arena {
         }
     }
 
-    /// Keeps the message of an entry, and returns where: at this place, if it is there already.
+    /// Stores the message of an entry, and returns its position: `place`, if it is there already.
     #[inline(always)]
     pub(crate) fn share_plain(&mut self, message: &Message, place: u32) -> u32
         requires { HasMessageRoom self.old 1 }
@@ -263,7 +263,7 @@ impl Arena {
         }
     }
 
-    /// Keeps the word of a record, and returns where.
+    /// Stores the word of a record, and returns its position.
     pub(crate) fn keep_word(&mut self, word: u64) -> u32
         requires { HasRoom self.old 1 }
         ensures value { word_at self.new.words.items result ≡ word }
@@ -273,7 +273,7 @@ impl Arena {
         keep_one(&mut self.words, word)
     }
 
-    /// Keeps the word of a record and the serial of an object after it, and returns where.
+    /// Stores the word of a record and an object's serial after it, and returns their position.
     pub(crate) fn keep_pair(&mut self, word: u64, serial: u32) -> u32
         requires { HasRoom self.old 1 }
         ensures value { word_at self.new.words.items result ≡ word }
@@ -284,7 +284,7 @@ impl Arena {
         keep_two(&mut self.words, word, serial)
     }
 
-    /// Keeps the word of an entry or an answer, and returns where: at this place, if it is there
+    /// Stores the word of an entry or an answer, and returns its position: `place`, if it is there
     /// already.
     pub(crate) fn share_word(&mut self, word: u64, place: u32) -> u32
         requires { HasMessageRoom self.old 1 }
@@ -300,7 +300,7 @@ impl Arena {
         }
     }
 
-    /// Keeps a record as it is.
+    /// Stores a record unpacked.
     pub(crate) fn keep_wide(&mut self, fact: Rec) -> Packed
         requires { HasRoom self.old 1 }
         ensures value { record_in result self.new ≡ fact }

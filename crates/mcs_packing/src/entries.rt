@@ -1,4 +1,4 @@
-//! Entries in 16 bytes each, their messages, badges and large addresses among the words.
+//! Packed entries, of 16 bytes; messages, badges and large addresses are among the words.
 ghost use Rattle.std.specs.Prelude.{◌≡◌, IfOk};
 ghost use Rattle.mcs_types.specs.declared.entry.Entry.{Entry};
 ghost use Rattle.mcs_packing.specs.Packing.{GrewHead, HasMessageRoom};
@@ -40,7 +40,7 @@ pub enum OverAddress {
     CancelBadged,
 }
 
-/// The entries with one place.
+/// The entries with one place, an index and a depth.
 #[derive(Clone, Copy)]
 pub enum OverPlace {
     DeleteCap,
@@ -50,8 +50,8 @@ pub enum OverPlace {
     MakeContext,
 }
 
-/// An entry, packed: `at` is a place among the words, of a message with `len` words or of a badge.
-/// Addresses are in the order in which the entry names them, and a place as its depth and its
+/// A packed entry: `at` is the position among the words of a message with `len` words, or of a
+/// badge. Addresses are in the order in which the entry has them, and a place is its depth and its
 /// index.
 #[derive(Clone, Copy)]
 pub enum PackedEntry {
@@ -67,7 +67,7 @@ pub enum PackedEntry {
         cap: PackedAddress,
         reply: PackedAddress,
     },
-    /// The address of the reply object follows the message, where a badge does.
+    /// The address of the reply object follows the message, as a badge would.
     NbSendRecv {
         len: u8,
         at: u32,
@@ -113,8 +113,8 @@ pub enum PackedEntry {
 
 const _: () = prove!(size_of::<PackedEntry>() == 16);
 
-// Each form is packed as a part of `pack_entry`, but for the one that three entries share. A
-// message goes first: so no packed address waits for its call.
+// Each form is inlined into `pack_entry`, but for the one that three entries share. The message is
+// packed first, so that no packed address has to be saved across its call.
 
 impl Arena {
     /// Packs an entry that sends a message.
@@ -387,10 +387,10 @@ impl Arena {
         }
     }
 
-    /// Packs an entry, for which there is room, into `into`. Its message or its badge may be at a
-    /// place already. What was packed before stands for what it stood for.
-    // a part of its caller, but for invocations: so the entry is packed where it stays, and no
-    // place for it is handed on
+    /// Packs an entry into `into`; there must be room. Its message or its badge may already be at
+    /// `place`. Earlier packed values keep their meaning.
+    // inlined, except for invocations: so the entry is packed in its final place, and no pointer to
+    // it is passed on
     #[inline(always)]
     pub fn pack_entry(&mut self, entry: &Entry, place: u32, into: &mut PackedEntry)
         requires { HasMessageRoom self.old 1 }
@@ -446,7 +446,7 @@ impl Arena {
     }
 }
 
-/// The place of a packed index.
+/// Returns the place with a packed index.
 #[inline(always)]
 pub fn place_at(words: &[u64], index: PackedAddress, depth: u8) -> Place
     requires { AddressFits index words.now }
@@ -458,7 +458,7 @@ pub fn place_at(words: &[u64], index: PackedAddress, depth: u8) -> Place
     }
 }
 
-/// The entry that sends a message.
+/// Returns the entry of this form that sends a message.
 fn unpack_sending(form: Sending, cap: u64, message: Message) -> Entry
     ensures { result ≡ sending form cap message }
 {
@@ -469,7 +469,7 @@ fn unpack_sending(form: Sending, cap: u64, message: Message) -> Entry
     }
 }
 
-/// The entry of two addresses.
+/// Returns the entry of this form with two addresses.
 fn unpack_pair(form: OverPair, first: u64, second: u64) -> Entry
     ensures { result ≡ over_pair form first second }
 {
@@ -493,7 +493,7 @@ fn unpack_pair(form: OverPair, first: u64, second: u64) -> Entry
     }
 }
 
-/// The entry of one address.
+/// Returns the entry of this form with one address.
 fn unpack_address(form: OverAddress, address: u64) -> Entry
     ensures { result ≡ over_address form address }
 {
@@ -522,8 +522,8 @@ fn unpack_at(form: OverPlace, place: Place) -> Entry
     }
 }
 
-/// The entry that a packed one stands for: a table, a row for each form. A message of four words
-/// takes no memory.
+/// Unpacks an entry: a table, with a row for each form. A message of at most four words allocates
+/// nothing.
 pub fn unpack_entry(alloc: Global, entry: &PackedEntry, words: &[u64]) -> Result<Entry, OutOfMemory>
     requires { EntryFits entry.now words.now }
     ensures { IfOk result (λ e. e ≡ entry_of entry.now words.now) }

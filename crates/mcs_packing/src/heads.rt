@@ -8,7 +8,7 @@ use crate::entries::PackedEntry;
 use mcs_types::{Answer, Badge, CoreId, Kind, OutOfMemory, Refusal};
 use std::alloc::Global;
 
-/// Which answer it is: a message has so many words.
+/// The kind of a packed answer, with the number of a message's words.
 #[derive(Clone, Copy)]
 pub enum AnswerForm {
     Done,
@@ -19,16 +19,16 @@ pub enum AnswerForm {
     Refused(Refusal),
 }
 
-/// An answer, packed: `at` is the place among the words of a message that was got or of a word that
-/// was heard.
+/// A packed answer: `at` is the position among the words of a received message or of a notification
+/// word.
 #[derive(Clone, Copy)]
 pub struct PackedAnswer {
     pub form: AnswerForm,
     pub at: u32,
 }
 
-/// The head of a line: who entered on which core, the entry, the answer as `PackedAnswer` has it,
-/// and where the records end among those of all lines.
+/// The head of a line: who entered on which core, the entry, the answer in the fields of
+/// `PackedAnswer`, and where the line's records end among all.
 #[derive(Clone, Copy)]
 pub struct Head {
     pub entry: PackedEntry,
@@ -42,7 +42,7 @@ pub struct Head {
 
 const _: () = prove!(size_of::<Head>() == 32);
 
-/// An answer that names no place.
+/// Returns an answer without a position.
 fn placeless(form: AnswerForm) -> PackedAnswer
     ensures form { result.form ≡ form }
     ensures at { result.at ≡ 0 }
@@ -51,8 +51,8 @@ fn placeless(form: AnswerForm) -> PackedAnswer
 }
 
 impl Arena {
-    /// Packs an answer, for which there is room. Its message or its word may be at a place already.
-    /// What was packed before stands for what it stood for.
+    /// Packs an answer; there must be room. Its message or its word may already be at `place`.
+    /// Earlier packed values keep their meaning.
     pub fn pack_answer(&mut self, answer: &Answer, place: u32) -> PackedAnswer
         requires { HasMessageRoom self.old 1 }
         ensures value { answer_of result.form result.at self.new.words.items ≡ answer.now }
@@ -78,7 +78,7 @@ impl Arena {
     }
 }
 
-/// The answer that a packed one stands for. A message of four words takes no memory.
+/// Unpacks an answer. A message of at most four words allocates nothing.
 pub fn unpack_answer(
     alloc: Global,
     form: AnswerForm,

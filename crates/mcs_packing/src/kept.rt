@@ -1,4 +1,4 @@
-//! What a book keeps, read where it is: nothing is unpacked before it is asked for.
+//! Borrowed records, steps and answers of a book in packed form.
 ghost use Rattle.std.specs.Prelude.{◌≡◌, IfOk};
 ghost use Rattle.mcs_packing.specs.Kept.{is_sent};
 
@@ -10,7 +10,7 @@ use mcs_types::{Answer, CoreId, Kind, ObjId, OutOfMemory, Rec, Step};
 use std::alloc::Global;
 use std::marker::Model;
 
-/// A record where it is kept. Clauses see the record.
+/// A record in packed form. Clauses see the record.
 #[derive(Drop)]
 pub struct KeptRecord<'a> {
     pub packed: &'a Packed,
@@ -30,14 +30,14 @@ impl<'a> Model for KeptRecord<'a> {
 }
 
 impl<'a> KeptRecord<'a> {
-    /// The record.
+    /// Unpacks the record.
     pub fn unpack(&self, alloc: Global) -> Result<Rec, OutOfMemory>
         ensures { IfOk result (λ r. r ≡ self.now) }
     {
         unpack(alloc, self.packed, self.words, self.wide)
     }
 
-    /// Whether it is that of a message that was sent.
+    /// Returns whether it is a Sent record.
     pub fn is_sent(&self) -> bool
         ensures { result ≡ is_sent self.now }
     {
@@ -49,7 +49,7 @@ impl<'a> KeptRecord<'a> {
     }
 }
 
-/// The thread that entered, its core and the entry, where it is kept. Clauses see the step.
+/// A step in packed form: the thread that entered, its core and the entry. Clauses see the step.
 #[derive(Drop)]
 pub struct KeptStep<'a> {
     pub core: CoreId,
@@ -75,7 +75,7 @@ impl<'a> Model for KeptStep<'a> {
 }
 
 impl<'a> KeptStep<'a> {
-    /// The step.
+    /// Unpacks the step.
     pub fn unpack(&self, alloc: Global) -> Result<Step, OutOfMemory>
         ensures { IfOk result (λ s. s ≡ self.now) }
     {
@@ -90,7 +90,7 @@ impl<'a> KeptStep<'a> {
     }
 }
 
-/// An answer where it is kept. Clauses see the answer.
+/// An answer in packed form. Clauses see the answer.
 #[derive(Drop)]
 pub struct KeptAnswer<'a> {
     pub form: AnswerForm,
@@ -110,7 +110,7 @@ impl<'a> Model for KeptAnswer<'a> {
 }
 
 impl<'a> KeptAnswer<'a> {
-    /// The answer.
+    /// Unpacks the answer.
     pub fn unpack(&self, alloc: Global) -> Result<Answer, OutOfMemory>
         ensures { IfOk result (λ a. a ≡ self.now) }
     {

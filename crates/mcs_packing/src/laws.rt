@@ -1,4 +1,4 @@
-//! What was packed stands for the same after more was packed: laws, each the contract of a function
+//! Laws: packed values keep their meaning when more is packed. Each is the contract of a function
 //! that does nothing.
 ghost use Rattle.std.specs.Prelude.{◌≡◌};
 ghost use Rattle.mcs_packing.specs.declared.arena.Arena.{Arena};
@@ -9,7 +9,7 @@ ghost use Rattle.mcs_packing.specs.Packing.{Grew, FitsIn, record_in};
 ghost use Rattle.mcs_packing.specs.Entries.{EntryFits, entry_of};
 ghost use Rattle.mcs_packing.specs.Heads.{AnswerFits, answer_of};
 
-/// A packed record stands for the same record once its arena grew.
+/// Law: a packed record unpacks to the same record after its arena grew.
 pub fn records_kept()
     ghost at: { Packed × Arena × Arena }
     requires fits { FitsIn at.0 at.1 }
@@ -18,7 +18,7 @@ pub fn records_kept()
     ensures fits { FitsIn at.0 at.2 }
 {}
 
-/// A packed entry stands for the same entry once its arena grew.
+/// Law: a packed entry unpacks to the same entry after its arena grew.
 pub fn entries_kept()
     ghost at: { PackedEntry × Arena × Arena }
     requires fits { EntryFits at.0 at.1.words.items }
@@ -27,7 +27,7 @@ pub fn entries_kept()
     ensures fits { EntryFits at.0 at.2.words.items }
 {}
 
-/// A packed answer stands for the same answer once its arena grew.
+/// Law: a packed answer unpacks to the same answer after its arena grew.
 pub fn answers_kept()
     ghost at: { PackedAnswer × Arena × Arena }
     requires fits { AnswerFits at.0.form at.0.at at.1.words.items }

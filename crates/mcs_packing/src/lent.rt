@@ -1,12 +1,10 @@
-//! Messages that are lent to the record of them, so that no copy is made but for a record that is
-//! kept whole.
+//! Messages lent to their record, so that only an unpacked record needs a copy.
 ghost use Rattle.std.specs.Prelude.{◌≡◌};
 
 use mcs_types::Message;
 use std::marker::Model;
 
-/// A message that is lent, beside a spare one where a copy of it takes memory. Clauses see the
-/// message.
+/// A borrowed message, with a spare copy if copying it would allocate. Clauses see the message.
 #[derive(Drop)]
 pub struct Lent<'a> {
     pub message: &'a Message,
@@ -25,7 +23,7 @@ impl<'a> Model for Lent<'a> {
 }
 
 impl<'a> Lent<'a> {
-    /// An equal message: the spare one, where there is one. It takes no memory.
+    /// Returns an equal message, the spare one if there is one. It allocates nothing.
     #[inline(always)]
     pub fn into_message(self) -> Message
         ensures { result ≡ self.entry }

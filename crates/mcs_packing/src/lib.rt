@@ -1,5 +1,5 @@
-//! Records, entries and answers in at most 16 bytes each, and the words that they name in one list
-//! that only grows.
+//! Records, entries and answers in at most 16 bytes each; the words that they refer to are in one
+//! list that only grows.
 #![tactic(auto)]
 
 mod addresses;

@@ -1,4 +1,4 @@
-//! Records in 12 bytes each: objects by their serials, the words of messages by their place.
+//! Packed records, of 12 bytes: objects by serial, the words of messages by position.
 ghost use Rattle.std.specs.Prelude.{◌≡◌, ◌+◌, IfSome, Some};
 ghost use Rattle.mcs_types.specs.declared.record.Rec.{Rec};
 ghost use Rattle.mcs_packing.specs.Packing.{FitsIn, Grew, HasRoom, IsPlain, Packs, object, queue_on, record_in};
@@ -10,7 +10,7 @@ use mcs_types::{
     Rights, SendMode,
 };
 
-/// Which line of an object.
+/// Which queue of an object.
 #[derive(Clone, Copy)]
 pub enum Side {
     Senders,
@@ -18,11 +18,11 @@ pub enum Side {
     Waiters,
 }
 
-/// A record, packed: an object whose kind the record tells is its serial, a thread the serial less
-/// 1, and `at` is a place among the words.
+/// A packed record. An object whose kind follows from the record is its serial, a thread its serial
+/// less 1, and `at` is a position among the words.
 #[derive(Clone, Copy)]
 pub enum Packed {
-    /// An object that keeps nothing was made.
+    /// An object without properties was made.
     Made {
         kind: Kind,
         serial: u32,
@@ -49,8 +49,8 @@ pub enum Packed {
         cnode: u32,
         serial: u32,
     },
-    /// A slot holds a capability with a badge, which is among the words, and after it the serial of
-    /// the slot's CNode.
+    /// A slot holds a capability with a badge; the badge is among the words, followed by the serial
+    /// of the slot's CNode.
     FilledBadged {
         index: u8,
         rights: Rights,
@@ -58,8 +58,8 @@ pub enum Packed {
         serial: u32,
         at: u32,
     },
-    /// A slot holds a capability to a CNode with a guard of so many bits, whose value is among the
-    /// words, and after it the serial of the slot's CNode.
+    /// A slot holds a capability to a CNode with a guard of this many bits; the guard's value is
+    /// among the words, followed by the serial of the slot's CNode.
     FilledGuarded {
         index: u8,
         rights: Rights,
@@ -132,7 +132,7 @@ pub enum Packed {
         thread: u8,
         context: u32,
     },
-    /// Nobody holds a context now.
+    /// No thread holds a context now.
     Unheld {
         context: u32,
     },
@@ -141,7 +141,7 @@ pub enum Packed {
         notification: u32,
         badge: u32,
     },
-    /// A badge of more bits was signalled, which is among the words.
+    /// A larger badge was signalled, which is among the words.
     RaisedAt {
         notification: u32,
         at: u32,
@@ -167,7 +167,7 @@ pub enum Packed {
     Unhomed {
         context: u32,
     },
-    /// One that none of these fits, at a place among the wide ones.
+    /// A record that fits none of these forms, at a position among the wide records.
     Wide {
         at: u32,
     },
@@ -187,8 +187,8 @@ fn serial_of(id: &ObjId, kind: Kind) -> Option<u32>
     }
 }
 
-/// The serial of a thread less 1, where a byte holds it: threads of legal books have the serials 1
-/// to 256.
+/// Returns the serial of a thread less 1, if it fits a byte: threads of legal books have the
+/// serials 1 to 256.
 #[inline(always)]
 fn thread_of(id: &ObjId) -> Option<u8>
     ensures { IfSome result (λ t. id.now ≡ object Kind.Thread (t + 1)) }
@@ -201,7 +201,7 @@ fn thread_of(id: &ObjId) -> Option<u8>
     }
 }
 
-/// The side of a line, and the serial of its object.
+/// Returns which queue of its object it is, and the object's serial.
 #[inline(always)]
 fn side_of(queue: &Queue) -> Option<(Side, u32)>
     ensures { IfSome result (λ s. queue.now ≡ queue_on s.0 s.1) }
@@ -213,7 +213,7 @@ fn side_of(queue: &Queue) -> Option<(Side, u32)>
     })
 }
 
-/// Packs what was made and what ended.
+/// Packs a record of an object made or closed.
 #[inline(always)]
 fn pack_object(fact: &Rec) -> Option<Packed>
     ensures { IsPlain result fact.now }
@@ -241,7 +241,7 @@ fn pack_object(fact: &Rec) -> Option<Packed>
     }
 }
 
-/// Packs how a thread is in a queue.
+/// Packs a Joins record.
 #[inline(always)]
 fn pack_joins(thread: &ObjId, queue: &Queue, reply: &Option<ObjId>) -> Option<Packed>
     ensures { IsPlain result (Rec.Joins thread.now queue.now reply.now) }
@@ -263,7 +263,7 @@ fn pack_joins(thread: &ObjId, queue: &Queue, reply: &Option<ObjId>) -> Option<Pa
     })
 }
 
-/// Packs what a reply object owes.
+/// Packs an Owes record.
 #[inline(always)]
 fn pack_owes(reply: &ObjId, caller: &ObjId, context: &Option<ObjId>) -> Option<Packed>
     ensures { IsPlain result (Rec.Owes reply.now caller.now context.now) }
@@ -280,7 +280,7 @@ fn pack_owes(reply: &ObjId, caller: &ObjId, context: &Option<ObjId>) -> Option<P
     })
 }
 
-/// Packs how a thread runs and where it is.
+/// Packs a record of a thread's priority, mode or queue.
 #[inline(always)]
 fn pack_thread(fact: &Rec) -> Option<Packed>
     ensures { IsPlain result fact.now }
@@ -311,7 +311,7 @@ fn pack_thread(fact: &Rec) -> Option<Packed>
     })
 }
 
-/// Packs what became of a message, and of the debt for it.
+/// Packs a record of a message taken or dropped, or of a debt.
 #[inline(always)]
 fn pack_debt(fact: &Rec) -> Option<Packed>
     ensures { IsPlain result fact.now }
@@ -397,7 +397,7 @@ fn pack_raised(notification: &ObjId, badge: Badge) -> Option<Packed>
     })
 }
 
-/// Packs the holder of a context, is bound to a notification, and what was signalled.
+/// Packs a record of a context's holder or home, of a notification's thread, or of a small signal.
 #[inline(always)]
 fn pack_bond(fact: &Rec) -> Option<Packed>
     ensures { IsPlain result fact.now }
@@ -534,8 +534,8 @@ impl Arena {
         Some(Packed::RaisedAt { notification, at })
     }
 
-    /// Packs a slot with a capability that has a badge and no guard, or is to a CNode and has a
-    /// guard and no badge.
+    /// Packs a record of a slot with a capability that has either a badge, or is to a CNode and has
+    /// a guard.
     fn pack_marked(&mut self, cnode: &ObjId, index: u8, cap: &Cap) -> Option<Packed>
         requires { HasRoom self.old 1 }
         ensures { Packs self.old self.new result (Rec.Slot cnode.now index (Some cap.now)) }
@@ -602,8 +602,8 @@ impl Arena {
         }
     }
 
-    /// Keeps the record of a message that was sent as it is.
-    // out of line, as that of `keep_paid`: so that a record that is packed is never in memory
+    /// Stores a Sent record unpacked.
+    // not inlined, as `keep_paid`: so that a packed record stays in registers
     #[cold]
     #[inline(never)]
     fn keep_sent(
@@ -628,7 +628,7 @@ impl Arena {
         })
     }
 
-    /// Keeps the record of an answer to a caller as it is.
+    /// Stores a Paid record unpacked.
     #[cold]
     #[inline(never)]
     fn keep_paid(&mut self, reply: ObjId, caller: ObjId, message: Message) -> Packed
@@ -644,7 +644,8 @@ impl Arena {
         })
     }
 
-    /// Packs the record of a message that was sent, as `pack` does: its words go to the arena once.
+    /// Packs a Sent record, as `pack` does; the message's words go to the arena without another
+    /// copy.
     #[inline(always)]
     pub fn pack_lent_sent(
         &mut self,
@@ -666,7 +667,8 @@ impl Arena {
         }
     }
 
-    /// Packs the record of an answer to a caller, likewise.
+    /// Packs a Paid record, as `pack` does; the message's words go to the arena without another
+    /// copy.
     #[inline(always)]
     pub fn pack_lent_paid(&mut self, reply: ObjId, caller: ObjId, message: Lent<'_>) -> Packed
         requires { HasRoom self.old 1 }
@@ -680,8 +682,8 @@ impl Arena {
         }
     }
 
-    /// Packs a record, for which there is room. What was packed before stands for what it stood
-    /// for. Where the kind of the record is known, its part alone is left here.
+    /// Packs a record; there must be room. Earlier packed values keep their meaning. If the caller
+    /// knows the kind of the record, the compiler keeps only that part of this function.
     #[inline(always)]
     pub fn pack(&mut self, fact: Rec) -> Packed
         requires { HasRoom self.old 1 }

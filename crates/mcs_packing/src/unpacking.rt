@@ -1,4 +1,4 @@
-//! What packed records stand for.
+//! Unpacks records.
 ghost use Rattle.std.specs.Prelude.{◌≡◌, ◌+◌, IfOk};
 ghost use Rattle.mcs_packing.specs.Packing.{Fits, IsOfBond, IsOfDebt, IsOfMarked, IsOfMessage, IsOfObject, IsOfSlot, IsOfThread, IsOfWord, IsPairAt, guarded_cap, queue_on, object, plain_cap, record_of, serial_behind};
 
@@ -14,7 +14,7 @@ pub fn id_of(kind: Kind, serial: u32) -> ObjId
     ObjId { kind, serial }
 }
 
-/// The thread whose serial less 1 is this.
+/// Returns the thread with this serial less 1.
 pub fn thread_id(thread: u8) -> ObjId
     ensures { result ≡ object Kind.Thread (thread + 1) }
 {
@@ -25,7 +25,7 @@ pub fn thread_id(thread: u8) -> ObjId
 pub fn queue_of(side: Side, serial: u32) -> Queue
     ensures { result ≡ queue_on side serial }
 {
-    // the object is made once, so it stays in a register
+    // the object is built once, so it stays in a register
     let kind = match side {
         Side::Senders | Side::Receivers => Kind::Endpoint,
         Side::Waiters => Kind::Notification,
@@ -38,7 +38,7 @@ pub fn queue_of(side: Side, serial: u32) -> Queue
     }
 }
 
-/// The serial that follows the word at a place.
+/// Returns the serial that follows the word at a position.
 #[inline(always)]
 pub fn serial_behind(words: &[u64], at: u32) -> u32
     requires { IsPairAt words.now at }
@@ -102,7 +102,7 @@ fn heard(thread: u8, on: u32, word: u64) -> Rec
     }
 }
 
-/// What was made and what ended.
+/// Unpacks a record of an object made or closed.
 fn unpack_object(packed: &Packed, words: &[u64], wide: &[Rec]) -> Rec
     requires { IsOfObject packed.now }
     ensures { result ≡ record_of packed.now words.now wide.now }
@@ -123,7 +123,7 @@ fn unpack_object(packed: &Packed, words: &[u64], wide: &[Rec]) -> Rec
     }
 }
 
-/// A slot without a capability, or with one that has no badge and no guard.
+/// Unpacks a record of a slot without a capability, or with one that has no badge and no guard.
 fn unpack_slot(packed: &Packed, words: &[u64], wide: &[Rec]) -> Rec
     requires { IsOfSlot packed.now }
     ensures { result ≡ record_of packed.now words.now wide.now }
@@ -144,7 +144,7 @@ fn unpack_slot(packed: &Packed, words: &[u64], wide: &[Rec]) -> Rec
     }
 }
 
-/// How a thread runs and where it is.
+/// Unpacks a record of a thread's priority, mode or queue.
 fn unpack_thread(packed: &Packed, words: &[u64], wide: &[Rec]) -> Rec
     requires { IsOfThread packed.now }
     ensures { result ≡ record_of packed.now words.now wide.now }
@@ -184,7 +184,7 @@ fn unpack_thread(packed: &Packed, words: &[u64], wide: &[Rec]) -> Rec
     }
 }
 
-/// What became of a message, and of the debt for it.
+/// Unpacks a record of a message taken or dropped, or of a debt.
 fn unpack_debt(packed: &Packed, words: &[u64], wide: &[Rec]) -> Rec
     requires { IsOfDebt packed.now }
     ensures { result ≡ record_of packed.now words.now wide.now }
@@ -222,7 +222,8 @@ fn unpack_debt(packed: &Packed, words: &[u64], wide: &[Rec]) -> Rec
     }
 }
 
-/// Who holds a context, is bound to a notification, and what was signalled.
+/// Unpacks a record of a context's holder or home, of a notification's thread, or of a small
+/// signal.
 fn unpack_bond(packed: &Packed, words: &[u64], wide: &[Rec]) -> Rec
     requires { IsOfBond packed.now }
     ensures { result ≡ record_of packed.now words.now wide.now }
@@ -269,7 +270,7 @@ fn unpack_bond(packed: &Packed, words: &[u64], wide: &[Rec]) -> Rec
     }
 }
 
-/// A slot with a capability that has a badge or a guard.
+/// Unpacks a record of a slot with a capability that has a badge or a guard.
 fn unpack_marked(packed: &Packed, words: &[u64], wide: &[Rec]) -> Rec
     requires of { IsOfMarked packed.now }
     requires fits { Fits packed.now words.now wide.now }
@@ -300,7 +301,7 @@ fn unpack_marked(packed: &Packed, words: &[u64], wide: &[Rec]) -> Rec
     }
 }
 
-/// What keeps one word: what was signalled or heard.
+/// Unpacks a record of one word: a large signal, or a word that was heard.
 fn unpack_word(packed: &Packed, words: &[u64], wide: &[Rec]) -> Rec
     requires of { IsOfWord packed.now }
     requires fits { Fits packed.now words.now wide.now }
@@ -320,7 +321,7 @@ fn unpack_word(packed: &Packed, words: &[u64], wide: &[Rec]) -> Rec
     }
 }
 
-/// What was sent and paid.
+/// Unpacks a record of a message: Sent or Paid.
 fn unpack_message(
     alloc: Global,
     packed: &Packed,
@@ -359,7 +360,7 @@ fn unpack_message(
     })
 }
 
-/// The record that a packed one stands for. A message of four words takes no memory.
+/// Unpacks a record. A message of at most four words allocates nothing.
 pub fn unpack(
     alloc: Global,
     packed: &Packed,

@@ -36,7 +36,7 @@ comes-fault view fault.Write out comes = inl comes
 comes-fault view fault.BookFull out comes = inl comes
 comes-fault view fault.Failed out comes = inl comes
 
--- while the boot goes on
+-- while the boot continues
 pub after-open : (t : Script Step) (n : ℕ) (l : List ℕ) → t.items ≡ [] → after_line (opened_to t.boot None) n l ≡ after_boot_line (read_at n (read_line of_steps t n l))
 unfolding after_line
 after-open t n l none = ap (λ (ss : List Step). after_boot_line (read_at n (read_line of_steps (record { boot = t.boot; items = ss }) n l))) (sym none)

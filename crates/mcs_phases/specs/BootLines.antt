@@ -89,6 +89,6 @@ abbrev pub if_passed : Boot → BootLine → Result Passed BootFault → Result 
 if_passed b line (Ok passed) = Ok (record b { lines = line ∷ b.lines })
 if_passed b line (Err e) = Err (line_fault e)
 
--- a boot with one line more, where nothing is wrong with it
+-- a boot with one line more, where there is no fault in it
 unfoldable pub with_line : Boot → BootLine → Result Boot LineFault
 with_line b line = if_passed b line (boot_check b.cores (boot_log b.lines) line)

@@ -1,4 +1,4 @@
--- A replay that goes on: line by line, and byte by byte.
+-- A replay that continues: line by line, and byte by byte.
 use Rattle.std.specs.Prelude.{◌≡◌, ◌≢◌, ◌⊎◌, ℕ, ◌+◌, ◌<◌, slice_index, Bool, List, [], ◌∷◌, ◌++◌, length, Option, Some, None, Result, Ok, Err, nat_lt, ◌==◌, if◌then◌else◌}
 use Rattle.mcs_types.specs.declared.entry.Step.{Step}
 use Rattle.mcs_types.specs.declared.limits.TheConstants.{SCRIPT_LINES, SCRIPT_LINE_BYTES}
@@ -40,7 +40,7 @@ not_begun = record { boot = None; book = None }
 abbrev pub begun_by : Boot → Book
 begun_by b = record { boot = b; lines = [] }
 
--- a book with one step more: it is full for it, or has its line where it is let in
+-- a book with one step more: it is full for it, or has its line where it is accepted
 unfoldable pub stepped : Book → Step → Result Book SimFault
 stepped k s = if is_book_full (fault_of k s.core s.thread) then Err fault.BookFull else Ok (with_step k s)
 
@@ -54,7 +54,7 @@ abbrev pub step_spelled : ℕ → ℕ → List ℕ → List (List ℕ) → Resul
 step_spelled cores threads line [] = Err why.Form
 step_spelled cores threads line (w ∷ ws) = behind_boot (boot_key w) (step_of cores threads line)
 
--- the step that the line of this number says, where it is not skipped, after a boot with so many
+-- the step that the line of this number says, where it is not skipped, after a boot with this many
 -- cores and threads
 unfoldable pub step_line : ℕ → ℕ → ℕ → List ℕ → Result (Option Step) LineFault
 step_line cores threads number line = says_something number line >>= λ says. if says then step_spelled cores threads line (words_of line) else Ok None
@@ -80,7 +80,7 @@ opened boot [] = Ok (record { boot = boot; book = None })
 opened None (s ∷ ss) = Ok not_begun
 opened (Some b) (s ∷ ss) = stands None (stepped (begun_by b) s)
 
--- what is after a line while the boot goes on, by what was read of it
+-- what is after a line while the boot continues, by what was read of it
 abbrev pub after_boot_line : Result (Script Step) SimFault → Result BootOrBook SimFault
 after_boot_line (Ok t) = opened t.boot t.items
 after_boot_line (Err e) = Err e
@@ -205,7 +205,7 @@ ended g = at_end g g.course.fault
 
 -- ---- what the calls answer
 
--- what a call returned, seen by view, is what comes of it, where memory was there
+-- what a call returned, seen by view, is the result, unless memory was refused
 abbrev pub ComesOf : {X Y : Type 0} → (X → Y) → Result X SimFault → Result Y SimFault → Type 0
 ComesOf view (Ok x) out = out ≡ Ok (view x)
 ComesOf view (Err fault.OutOfMemory) out = Unit {0}

@@ -25,7 +25,7 @@ abbrev pub HasNoItems : Phase → Type 0
 HasNoItems (Booting script) = script.items ≡ []
 HasNoItems (Running k) = Unit {0}
 
--- what came of the line of this number
+-- the result of the line of this number
 abbrev pub answer_at : ℕ → Outcome → Result (Unit {0}) SimFault
 answer_at number outcome.Taken = Ok tt
 answer_at number (outcome.Script why) = Err (fault.Script number why)

@@ -34,7 +34,7 @@ Reads view (Err (not_taken.Line e)) read = read ≡ Err e
 Reads view (Err not_taken.OutOfMemory) read = Unit {0}
 
 -- how a script is read: the number of cores that it has to say, where that is given, and the item
--- that a line after the boot spells, where so many cores and threads are there
+-- that a line after the boot spells, where this many cores and threads are there
 pub record Grammar (T : Type 0) : Type 0 where
   pub cores : Option ℕ
   pub item : ℕ → ℕ → List ℕ → Result T LineFault
@@ -132,7 +132,7 @@ script_of grammar text = script_from grammar no_script 1 (lines_of text)
 abbrev pub of_steps : Grammar Step
 of_steps = record { cores = None; item = step_of }
 
--- scripts whose items are entries of users, on so many cores where that is asked for
+-- scripts whose items are entries of users, on this many cores where that is asked for
 abbrev pub of_users : Option ℕ → Grammar UserEntry
 of_users asked = record { cores = asked; item = λ cores threads line. user_of threads line }
 

@@ -1,11 +1,10 @@
-//! Why the program ends early, and how it tells that.
+//! Why the program ends early, and how it reports that.
 ghost use Rattle.std.specs.Prelude.{◌≡◌};
 
 use mcs_text::LineFault;
 use std::fmt;
 
-/// Why the program ended early. Its text is the line that the program tells, without the newline at
-/// the end.
+/// Why the program ended early. Its text is the line that the program writes, without the newline.
 #[derive(Clone, Copy, PartialEq, Eq, Debug)]
 pub enum SimFault {
     /// An argument of the command line is not UTF-8.
@@ -16,12 +15,12 @@ pub enum SimFault {
     Read,
     /// A write failed.
     Write,
-    /// The book is full at a step that would be let in.
+    /// The book is full at a step that would be accepted.
     BookFull,
     /// Memory was refused.
     OutOfMemory,
-    /// A run of users could not be ended well: a host thread was not started, or the book does not
-    /// agree with the calls of the cores.
+    /// A run of users failed: a host thread was not started, or the book does not agree with the
+    /// calls of the cores.
     Failed,
 }
 

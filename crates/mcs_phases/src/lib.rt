@@ -1,7 +1,7 @@
-//! What the lines of a script say, and how far its replay has come.
+//! The contents of a script's lines, and the phase of its replay.
 //!
-//! `script` says what a line says, of steps and of users; `phase` takes a line of steps: the boot
-//! so far, or from its end on the run of the steps. `fault` says why a program ends early.
+//! `script` reads lines, of steps and of users; `phase` takes a line of steps: the boot so far, or
+//! the run of the steps after it. `fault` says why a program ends early.
 #![tactic(auto)]
 
 mod fault;

@@ -1,4 +1,4 @@
-//! How far a replay of a script has come: the boot so far, or the run of the steps after it.
+//! The phase of a replay: the boot so far, or the run of the steps after it.
 ghost use Rattle.std.specs.Prelude.{ℕ, ◌≡◌, ◌≤◌, ◌∷◌, IfOk, OnOk, OnErr, IsSome, [], Err, None, option_copied, option_to_list};
 ghost use Rattle.mcs_text.specs.Reading.{Gives};
 ghost use Rattle.mcs_phases.specs.Script.{threads_of, read_line, of_steps};
@@ -14,8 +14,9 @@ use mcs_types::{Kind, OutOfMemory, Room, SCRIPT_LINES, Step};
 use std::alloc::Global;
 use std::marker::Model;
 
-/// The run of the steps after a boot, which has so many cores and threads, room for the words of
-/// the next step where it was made and not used yet, and a step, into which the next is read.
+/// The run of the steps after a boot with these numbers of cores and threads, with room for the
+/// words of the next step if that is allocated and unused, and a step into which the next one is
+/// read.
 pub struct StepRun {
     cores: u8,
     threads: u32,
@@ -24,8 +25,8 @@ pub struct StepRun {
     step: Step,
 }
 
-// By hand, so that it is a function of its own: a derived drop would be proved anew wherever a run
-// is dropped.
+// Written by hand as a separate function: a derived drop would be proved again wherever a run is
+// dropped.
 impl Drop for StepRun {
     fn drop(self) {
         let StepRun {
@@ -51,8 +52,8 @@ impl Model for StepRun {
         × (s.threads ≡ threads_of s.replay.book.boot) };
 }
 
-/// The outcome of a line whose number is not known.
-// two values, so that it is returned in registers, as a fault with a number is not
+/// The outcome of a line, without the line's number.
+// two values, so that it is returned in registers, unlike a fault with a number
 #[derive(Clone, Copy)]
 enum Outcome {
     Taken,
@@ -62,7 +63,7 @@ enum Outcome {
 }
 
 impl Outcome {
-    /// Does the same for the line of this number.
+    /// Returns the outcome with the line's number.
     #[inline(always)]
     fn at(self, number: u64) -> Result<(), SimFault>
         ensures { result ≡ answer_at number self }
@@ -77,7 +78,7 @@ impl Outcome {
 }
 
 /// Takes a step.
-// out of line, since with it each line that is read would save and clear its registers and locals
+// not inlined: otherwise each line would save and clear its registers and locals
 #[inline(never)]
 #[tactic(auto, unfolding(crate::specs::Going::stepped))]
 fn take_step(replay: &mut Replay<LinkedLines>, alloc: Global, step: &Step) -> Outcome
@@ -95,7 +96,7 @@ fn take_step(replay: &mut Replay<LinkedLines>, alloc: Global, step: &Step) -> Ou
 }
 
 impl StepRun {
-    /// Before the first step.
+    /// Returns the run before its first step.
     fn new(alloc: Global, boot: Boot) -> Result<StepRun, OutOfMemory>
         ensures { IfOk result (λ s. s ≡ begun_by boot) }
     {
@@ -118,14 +119,14 @@ impl StepRun {
         self.replay.kernel()
     }
 
-    /// Behind this boot, after the first step.
+    /// Returns the run after this boot and its first step.
     fn start(alloc: Global, boot: Boot, step: Step) -> Result<StepRun, SimFault>
         ensures { ComesOf (λ k. k) result (stepped (begun_by boot) step) }
     {
         let Ok(mut run) = StepRun::new(alloc, boot) else {
             return Err(SimFault::OutOfMemory);
         };
-        // A step is never refused by its line, so no fault tells this number.
+        // A step is never refused by its line, so no fault has this number.
         take_step(&mut run.replay, alloc, &step).at(0)?;
         Ok(run)
     }
@@ -157,9 +158,9 @@ impl StepRun {
     }
 }
 
-/// Reads the step that a line of this number says after a boot with so many cores and threads, if
-/// it is not skipped. Returns whether it says one. The room is used up by a message of more than
-/// four words.
+/// Reads the step of the line with this number after a boot with these numbers of cores and
+/// threads, if the line is not skipped. Returns whether it has one. A message of more than four
+/// words uses the room up.
 #[tactic(auto, unfolding(crate::specs::Going::step_line))]
 fn read_step_line(
     alloc: Global,
@@ -185,8 +186,8 @@ fn read_step_line(
     Ok(true)
 }
 
-/// Reads a line of this number while the boot goes on, and returns the step that it says, with
-/// which the boot ends.
+/// Reads the line with this number while the boot lasts, and returns its step, if it has one: that
+/// ends the boot.
 fn read_opening(
     opening: &mut Script<Step>,
     alloc: Global,
@@ -207,7 +208,7 @@ fn read_opening(
     }
 }
 
-/// Ends the boot with a step, and returns the run after it, where there is a boot.
+/// Ends the boot with a step, and returns the run after it, if there is a boot.
 fn end_opening(
     opening: &mut Script<Step>,
     alloc: Global,
@@ -224,8 +225,8 @@ fn end_opening(
     Ok(Some(run))
 }
 
-/// Reads a line of this number while the boot goes on, and returns the run of the step that it
-/// says, if it says one.
+/// Reads the line with this number while the boot lasts, and returns the run after its step, if it
+/// has one.
 fn open(
     opening: &mut Script<Step>,
     alloc: Global,
@@ -245,17 +246,17 @@ fn open(
     }
 }
 
-/// What a replay holds between two lines of its script.
+/// The state of a replay between two lines of its script.
 #[derive(Drop)]
 pub enum Phase {
     /// The boot so far.
     Booting(Script<Step>),
-    /// From the end of the boot on the run of the steps.
+    /// After the boot, the run of the steps.
     Running(StepRun),
 }
 
 impl Phase {
-    /// Before the first line.
+    /// Returns the phase before the first line.
     pub fn new(alloc: Global) -> Phase
         ensures begins { seen result ≡ not_begun }
         ensures kept { HasNoItems result }
@@ -273,8 +274,8 @@ impl Phase {
         }
     }
 
-    /// Takes the line of this number, with which a run may begin.
-    // out of line, since the run that it may answer is cleared first, in each call
+    /// Takes the line with this number, with which the run may begin.
+    // not inlined, since the run that it may return is cleared first in each call
     #[cold]
     #[inline(never)]
     fn take_opening_line(&mut self, alloc: Global, number: u64, line: &[u8]) -> Result<(), SimFault>
@@ -310,8 +311,8 @@ impl Phase {
         self.take_opening_line(alloc, number, line)
     }
 
-    /// Ends the boot at the end of the input, where no step did. Fault Script with NoCores (1) and
-    /// this number of a line where no line said the number of cores.
+    /// Ends the boot at the end of the input, if no step did. Fault `Script` with `NoCores` (1) and
+    /// this line number if no line said the number of cores.
     #[tactic(auto, unfolding(crate::specs::Going::after_end))]
     pub fn end_boot(&mut self, alloc: Global, number: u64) -> Result<(), SimFault>
         requires { HasNoItems self.old }

@@ -1,4 +1,4 @@
-//! What a script says.
+//! The contents of a script, line by line.
 ghost use Rattle.std.specs.Prelude.{◌≡◌, ◌≤◌, ℕ, List, Result, Ok, Err, Some, IsSome, IfOk, OnOk, OnErr};
 ghost use Rattle.mcs_book.specs.Boots.{boot_log, is_object};
 ghost use Rattle.mcs_text.specs.Reading.{Gives, words_of, step_of, user_of};
@@ -18,17 +18,17 @@ use mcs_types::{
 use std::alloc::Global;
 use std::marker::Model;
 
-/// What a line after the boot of a script says.
+/// What a line after the boot of a script contains.
 pub trait Item: Sized + Drop {
     ghost use Rattle.std.specs.Prelude.{IsSome};
     ghost use Rattle.mcs_text.specs.declared.fault.LineFault.{LineFault};
 
-    /// The item that a line spells, where so many cores and threads are there.
+    /// The item that a line spells, with these numbers of cores and threads.
     ghost item: { ℕ → ℕ → List ℕ → Result Self LineFault };
 
-    /// Reads the item that a line spells, where so many cores and threads are there. Fault Form
-    /// where it spells none; Number where a number is out of its range; NoObject where the thread
-    /// is not there.
+    /// Reads the item that a line spells, with these numbers of cores and threads. Fault `Form` if
+    /// it spells none; `Number` if a number is out of its range; `NoObject` if the thread does not
+    /// exist.
     fn read(
         alloc: Global,
         cores: u8,
@@ -68,7 +68,7 @@ impl Item for UserEntry {
     }
 }
 
-/// The boot and the items that the lines of a script have said so far.
+/// The boot and the items of a script's lines so far.
 #[derive(Drop)]
 pub struct Script<T> {
     pub boot: Option<Boot>,
@@ -76,7 +76,7 @@ pub struct Script<T> {
     pub room: Option<Room>,
 }
 
-/// Makes room for the words of any message, where there is none. OutOfMemory where it is refused.
+/// Allocates room for the words of any message, if there is none. `OutOfMemory` if that fails.
 pub fn make_ready(alloc: Global, room: &mut Option<Room>) -> Result<(), OutOfMemory>
     ensures ready { OnOk result (IsSome room.new) }
 {
@@ -129,15 +129,15 @@ impl From<BootFault> for ScriptFault {
     }
 }
 
-/// Whether a line is skipped.
+/// Returns whether a line is skipped.
 fn is_skipped(line: &[u8]) -> bool
     ensures { result ≡ is_skipped line.now }
 {
     matches!(line, [] | [b'#' | b'=' | b'+', ..])
 }
 
-/// Whether a line says something. Fault ManyLines (9) or LongLine (7) where there may be no such
-/// line.
+/// Returns whether a line is not skipped. Fault ManyLines (9) or LongLine (7) if such a line is not
+/// allowed.
 pub fn says_something(number: u64, line: &[u8]) -> Result<bool, LineFault>
     ensures says { Gives (λ says. says) result (says_something number line.now) }
     ensures numbered { OnOk result (number ≤ SCRIPT_LINES) }
@@ -151,7 +151,8 @@ pub fn says_something(number: u64, line: &[u8]) -> Result<bool, LineFault>
     Ok(!is_skipped(line))
 }
 
-/// The object of a kind with this serial. One that is too large is never made, as 0 is not.
+/// Returns the object of a kind with this serial; an id that is never made, serial 0, if the serial
+/// is too large.
 fn object(kind: Kind, serial: RawNumber) -> ObjId
     ensures { result ≡ object_of kind serial }
 {
@@ -189,7 +190,7 @@ fn cap_of(cap: RawCap) -> Result<Cap, LineFault>
     })
 }
 
-/// An index of a slot. That of a CNode that is not made is not tested.
+/// Returns an index of a slot. If the CNode was not made, its range is not tested here.
 fn index_in(boot: &Boot, cnode: RawNumber, index: RawNumber) -> Result<u8, LineFault>
     ensures { Gives (λ i. i) result
         (index_of (is_object (boot_log boot.now.lines) Kind.CNode (object_of Kind.CNode cnode))
@@ -201,7 +202,8 @@ fn index_in(boot: &Boot, cnode: RawNumber, index: RawNumber) -> Result<u8, LineF
     }
 }
 
-/// The line of the boot that is spelled, where each number fits its type. Nothing else is tested.
+/// Returns the line of the boot that is spelled, if each number fits its type. Nothing else is
+/// tested.
 #[tactic(auto, unfolding(crate::specs::BootLines::fitted))]
 fn fitted(boot: &Boot, line: RawBootLine) -> Result<BootLine, LineFault>
     ensures { Gives (λ l. l) result (fitted (boot_log boot.now.lines) line) }
@@ -254,7 +256,7 @@ fn fitted(boot: &Boot, line: RawBootLine) -> Result<BootLine, LineFault>
     }
 }
 
-/// The number of cores, where it is the one that was asked for.
+/// Returns the number of cores, if it is the one asked for.
 fn asked_cores(asked: Option<u8>, cores: u8) -> Result<u8, LineFault>
     ensures { Gives (λ n. n) result (asked_cores asked cores) }
 {
@@ -264,7 +266,7 @@ fn asked_cores(asked: Option<u8>, cores: u8) -> Result<u8, LineFault>
     }
 }
 
-/// Begins the boot of the first line, by the key of its first word and the words after it.
+/// Begins the boot with its first line, by the key of its first word and the words after it.
 #[tactic(auto, unfolding(crate::specs::Script::first_boot))]
 fn first_boot(
     alloc: Global,
@@ -280,7 +282,7 @@ fn first_boot(
     match read_boot_line(Key::Cores, words)? {
         RawBootLine::Cores { cores } => {
             let cores = asked_cores(asked, cores_of(cores)?)?;
-            // the number was tested, so that only memory can be refused
+            // the number was tested, so only an allocation can fail
             Boot::new(alloc, cores).map_err(|_| ScriptFault::OutOfMemory)
         }
         _ => Err(ScriptFault::Line(LineFault::Form)),
@@ -297,7 +299,7 @@ fn add_line(boot: &mut Boot, line: BootLine) -> Result<(), ScriptFault>
     Ok(())
 }
 
-/// Adds the line that the words after a key spell to the boot.
+/// Adds to the boot the line that the words after a key spell.
 #[tactic(auto, unfolding(crate::specs::Script::next_boot))]
 fn read_next_boot(boot: &mut Boot, key: Key, words: &mut Words<'_>) -> Result<(), ScriptFault>
     ensures reads { Reads (λ u. boot.new) result (next_boot boot.old key words.old) }
@@ -368,8 +370,9 @@ impl<T: Item> Script<T> {
         }
     }
 
-    /// Takes the line of this number, where so many cores are asked for. The faults are tested in
-    /// the order 9, 7, 1, 8, 2, 3, 4, 5, 6, and a faulty line leaves the script as it was.
+    /// Takes the line with this number; `asked` is the number of cores asked for, if any. The
+    /// faults are tested in the order 9, 7, 1, 8, 2, 3, 4, 5, 6, and a faulty line leaves the
+    /// script unchanged.
     #[tactic(auto, unfolding(crate::specs::Script::read_line))]
     pub fn read_line(
         &mut self,

@@ -103,7 +103,7 @@ boot_refused r w laid now same told is =
     let here : Refuses (boot_fits (said now.plan)) w = subst (λ (s : Result Script Why). IfErr s (Refuses (boot_fits (said now.plan)))) is told in
     subst (λ (l : Laid). Refuses (boot_fits (said l.plan)) w) same here
 
--- a fault that is handed on, whatever is told by it
+-- a fault that is handed on, whatever it reports
 pub handed : {T : Type 0} (r : Result T PlanFault) (fault : PlanFault) (P : PlanFault → Type 0) → IsErrAnd r (λ e. e ≡ fault) → P fault → IfErr r P
 handed (Ok x) fault P h told = absurd h
 handed (Err y) fault P h told = subst P (sym h) told

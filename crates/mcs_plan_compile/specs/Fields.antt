@@ -4,7 +4,7 @@ use Rattle.std.specs.Option.{option_or}
 use Rattle.mcs_plan_compile.specs.declared.fields.Field.{Field}
 use Rattle.mcs_plan_compile.specs.declared.fields.Field.TheVariants as field
 
--- an address, where there are so many
+-- an address, where there are this many
 abbrev pub address_if : ℕ → ℕ → Field
 address_if place count = if nat_lt place count then field.Address else field.End
 

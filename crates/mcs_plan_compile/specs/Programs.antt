@@ -17,7 +17,7 @@ use Rattle.mcs_plan_compile.specs.Mixing.{goes_on}
 abbrev pub ends_with_colon : List ℕ → Bool
 ends_with_colon word = elim (slice_get word (length word - 1)) [ None ↦ false | Some b ↦ b == 58 ]
 
--- the words behind the name of an entry or a block, if they have one
+-- the words after the name of an entry or a block, if they have one
 abbrev pub behind_name : List (List ℕ) → List (List ℕ)
 behind_name [] = []
 behind_name (word ∷ words) = cond (ends_with_colon word) words (word ∷ words)
@@ -54,7 +54,7 @@ closes (word ∷ words) = bytes_eq word (codes "}")
 abbrev pub opens : List (List ℕ) → Bool
 opens words = elim (slice_get words (length words - 1)) [ None ↦ false | Some word ↦ bytes_eq word (codes "{") ]
 
--- how many blocks are open behind what a statement closes, and behind the statement
+-- how many blocks are open after what a statement closes, and after the statement
 abbrev pub open_still : ℕ → List (List ℕ) → ℕ
 open_still blocks words = cond (closes words) (blocks - 1) blocks
 

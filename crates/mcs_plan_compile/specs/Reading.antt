@@ -10,7 +10,7 @@ use Rattle.mcs_plan_source.specs.ThreadLines.{line_more}
 use Rattle.mcs_plan_compile.specs.declared.lines.TheConstants.{LINE_BYTES}
 use Rattle.mcs_plan_compile.specs.Stepping.{count_before}
 
--- what is read, or the first fault and the line that it is told at
+-- what is read, or the first fault and the line that it is reported at
 abbrev pub ReadAt : Type 0 → Type 0
 ReadAt X = Result X (ℕ × Refusal)
 
@@ -19,13 +19,13 @@ abbrev pub at_line : {X : Type 0} → ℕ → Read X → ReadAt X
 at_line number (Ok x) = Ok x
 at_line number (Err e) = Err (number, e)
 
--- a reading, and then one that goes on with what it gave
+-- a reading, and then one that continues with what it gave
 abbrev pub and_then : {A B : Type 0} → ReadAt A → (A → ReadAt B) → ReadAt B
 and_then (Ok x) f = f x
 and_then (Err e) f = Err e
 
--- a fault that is told is the one that the reading ends in, at its line; that memory was refused
--- says nothing
+-- a fault that is reported is the one that the reading ends in, at its line; that memory was
+-- refused says nothing
 abbrev pub RefusesAt : {X : Type 0} → ReadAt X → PlanFault → Type 0
 RefusesAt read fault = ForSome (told_by fault.why) (λ e. read ≡ Err (fault.line, e))
 
@@ -39,7 +39,7 @@ line_said number line s = do
   short line
   line_more number (words_of (code_of line)) s
 
--- what lines add, one after another, after so many
+-- what lines add, one after another, after this many
 abbrev pub lines_said : ℕ → List (List ℕ) → Said → ReadAt Said
 lines_said count [] s = Ok s
 lines_said count (line ∷ lines) s = and_then (at_line (count + 1) (line_said (count + 1) line s)) (lines_said (count + 1) lines)

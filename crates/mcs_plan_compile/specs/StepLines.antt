@@ -39,7 +39,7 @@ core_said laid words = do
   (n, left) ← number_then (last_core laid) core
   Ok (record { 0 = n }, left)
 
--- the core of a step: that which the line says, or the thread's
+-- the core of a step: the one that the line names, or the thread's
 abbrev pub core_read : LaidPlan → ObjId → List (List ℕ) → Read (CoreId × List (List ℕ))
 core_read laid t [] = Ok (core_of laid.plan t, [])
 core_read laid t (word ∷ words) = core_said laid (word ∷ words)
@@ -113,7 +113,7 @@ line_taken laid e line = do
   short line
   code_taken laid e (code_of line)
 
--- lines, one after another, after so many
+-- lines, one after another, after this many
 abbrev pub lines_taken : LaidPlan → ℕ → List (List ℕ) → Entries → ReadAt Entries
 lines_taken laid count [] e = Ok e
 lines_taken laid count (line ∷ lines) e =

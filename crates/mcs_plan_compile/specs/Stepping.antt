@@ -19,7 +19,7 @@ abbrev pub asks : List ℕ → Bool
 asks [] = false
 asks (b ∷ bs) = cond (is_white b) (asks bs) (b == 63)
 
--- whether a text is `program`, with white space behind it or nothing
+-- whether a text is `program`, with white space after it or nothing
 abbrev pub is_program_word : List ℕ → Bool
 is_program_word bytes = bytes_eq (take 7 bytes) (codes "program") && begins_white (drop 7 bytes)
   where

@@ -26,8 +26,8 @@ few_lines found = if nat_lt LINES (length found) then Err (LINES + 1, limit LINE
 abbrev pub lines_in : List ℕ → ReadAt (List (List ℕ))
 lines_in bytes = if is_utf8 bytes then few_lines (lines bytes) else Err (line_of bytes (utf8_valid_len bytes), no_text)
 
--- all lines are taken, and the boot is refused, which is told at the last: a machine may not have
--- what it makes
+-- all lines are taken, and the boot is refused, which is reported at the last: a machine may not
+-- have what it makes
 pub record RefusesBoot (laid : LaidPlan) (found : List (List ℕ)) (fault : PlanFault) : Type 0 where
   pub entries : Entries
   pub taken : behind_said laid found ≡ Ok entries

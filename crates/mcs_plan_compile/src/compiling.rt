@@ -1,4 +1,4 @@
-//! A plan, line by line, to a script.
+//! Compiles a plan to a script, line by line.
 ghost use Rattle.std.specs.Prelude.{◌≡◌, ◌≤◌, ◌<◌, ◌+◌, ◌^◌, true, None, Some, Ok, Err, IfOk, IfErr, OnOk, length, drop, string_bytes};
 ghost use Rattle.std.specs.Str.{is_utf8};
 ghost use Rattle.std.specs.Str.Lines.{lines};
@@ -31,10 +31,10 @@ use mcs_plan_source::{Names, Passive, Plan, PlanFault, Why, Words, split_comment
 use mcs_types::{CoreId, Kind, ObjId};
 use std::alloc::{AllocError, Global};
 
-/// How many lines a plan may have (own): a script's may have 2,000,000.
+/// How many lines a plan may have (own); a script may have 2,000,000.
 const LINES: usize = 900_000;
 
-/// What came so far: steps, or lines and programs of users.
+/// What follows the boot so far: steps, or lines and programs of users.
 #[derive(Clone, Copy)]
 enum Entries {
     Nothing,
@@ -51,7 +51,7 @@ struct OpenProgram {
     lines: ProgramLines,
 }
 
-/// A plan whose boot is read, and the lines after it so far.
+/// A plan whose boot was read, and the script's lines after the boot so far.
 #[derive(Drop)]
 struct Compiler {
     laid: Laid,
@@ -63,12 +63,12 @@ struct Compiler {
     users: Vec<ObjId>,
 }
 
-/// Whether a thread is one of these.
+/// Returns whether a thread is in this list.
 fn has_thread(threads: &[ObjId], thread: ObjId) -> bool {
     threads.iter().any(|other| other.is_same(thread))
 }
 
-/// Fails with what a program tells of its line.
+/// Fails with the fault that the reader of programs gives for a line.
 fn told(alloc: Global, done: Result<(), FaultyLine>) -> Result<(), Why>
     ensures { IfErr result (λ w. told_by w ≡ None) }
 {
@@ -78,7 +78,7 @@ fn told(alloc: Global, done: Result<(), FaultyLine>) -> Result<(), Why>
     }
 }
 
-/// A fault, with its line.
+/// Adds the line to a fault.
 fn at<T: Drop>(line: u64, done: Result<T, Why>) -> Result<T, PlanFault>
     ensures ok { IfOk result (λ value. done ≡ Ok value) }
     ensures err { IfErr result (λ fault. (fault.line ≡ line) × (done ≡ Err fault.why)) }
@@ -89,7 +89,7 @@ fn at<T: Drop>(line: u64, done: Result<T, Why>) -> Result<T, PlanFault>
     }
 }
 
-/// Takes a line before the first step: the comment of one without words goes to the front.
+/// Takes a line before the first step; a line of only a comment goes to the front of the script.
 fn read_before(
     alloc: Global,
     plan: &mut Plan,
@@ -125,17 +125,17 @@ fn add_names(alloc: Global, names: &Names, to: &mut Vec<String>) -> Result<(), A
     Ok(())
 }
 
-/// What makes a thread passive: what it does, and then the thread that takes its context away.
+/// The steps that make a thread passive: its receive, and then the removal of its context.
 #[derive(Drop)]
 struct Opening {
-    /// The line of the thread.
+    /// The line of the plan that declares the thread.
     line: u64,
     head: Head,
     receive: String,
     unbind: String,
 }
 
-/// The text by which a passive thread receives.
+/// Returns the text of the entry by which a passive thread receives.
 fn receive_text(alloc: Global, passive: &Passive) -> Result<String, AllocError>
     ensures { IfOk result (λ text. string_bytes text
         ≡ receive_text (said_passive passive.now)) }
@@ -147,7 +147,7 @@ fn receive_text(alloc: Global, passive: &Passive) -> Result<String, AllocError>
     Ok(text)
 }
 
-/// The name of the context that a thread has at the boot.
+/// Returns the name of the context that a thread has at boot.
 fn context_name(plan: &Plan, thread: ObjId) -> &str
     ensures { result.now ≡ name_or_none (said plan.now) (context_in (said plan.now) thread) }
 {
@@ -157,7 +157,7 @@ fn context_name(plan: &Plan, thread: ObjId) -> &str
     }
 }
 
-/// The text by which the context of a passive thread is taken away.
+/// Returns the text of the entry that takes the context of a passive thread away.
 fn unbind_text(alloc: Global, plan: &Plan, passive: &Passive) -> Result<String, AllocError>
     ensures { IfOk result (λ text. string_bytes text
         ≡ unbind_text (said plan.now) (said_passive passive.now)) }
@@ -167,7 +167,7 @@ fn unbind_text(alloc: Global, plan: &Plan, passive: &Passive) -> Result<String, 
     Ok(text)
 }
 
-/// What makes a thread passive.
+/// Returns the steps that make a thread passive.
 fn opening_of(alloc: Global, plan: &Plan, passive: &Passive) -> Result<Opening, Why>
     ensures opening { IfOk result (IsOpeningOf (said plan.now) (said_passive passive.now)) }
     ensures told { IfErr result (λ w. told_by w ≡ None) }
@@ -183,7 +183,7 @@ fn opening_of(alloc: Global, plan: &Plan, passive: &Passive) -> Result<Opening, 
     })
 }
 
-/// What makes the thread passive that is at this place.
+/// Returns the steps that make the passive thread at this index passive.
 #[tactic(auto, using(crate::proofs::Opened::opening_there))]
 fn opening_at(alloc: Global, plan: &Plan, place: usize) -> Result<Opening, PlanFault>
     requires { place < length plan.now.passives.items }
@@ -193,7 +193,7 @@ fn opening_at(alloc: Global, plan: &Plan, place: usize) -> Result<Opening, PlanF
     at(0, opening_of(alloc, plan, &plan.passives[place]))
 }
 
-/// The thread that takes the contexts of passive threads away: the last one.
+/// Returns the head of the thread that takes the contexts of passive threads away: the last one.
 fn starter_head(plan: &Plan) -> Head
     ensures { result ≡ starter_head (said plan.now) }
 {
@@ -207,7 +207,7 @@ fn starter_head(plan: &Plan) -> Head
 }
 
 impl Compiler {
-    /// Adds a step that the plan does not say.
+    /// Adds a step that is not in the plan.
     fn add_step(&mut self, alloc: Global, head: Head, text: &str) -> Result<(), Why>
         ensures added { OnOk result (step_added (laid_said self.old.laid) head text.now ≡ Ok tt) }
         ensures told { IfErr result (Refuses (step_added (laid_said self.old.laid) head text.now)) }
@@ -220,7 +220,7 @@ impl Compiler {
         Ok(())
     }
 
-    /// Does what makes a thread passive.
+    /// Adds the steps that make a thread passive.
     fn add_opening(&mut self, alloc: Global, opening: &Opening) -> Result<(), Why>
         ensures added { OnOk result (both_added (laid_said self.old.laid) opening.now.head
             (string_bytes opening.now.receive) (string_bytes opening.now.unbind) ≡ Ok tt) }
@@ -234,7 +234,7 @@ impl Compiler {
         self.add_step(alloc, starter, opening.unbind.as_str())
     }
 
-    /// Does the same, and reports a fault at the line of the thread.
+    /// Adds the steps that make a thread passive; a fault is reported at the thread's line.
     fn do_opening(&mut self, alloc: Global, opening: &Opening) -> Result<(), PlanFault>
         ensures added { OnOk result (at_line opening.now.line
             (both_added (laid_said self.old.laid) opening.now.head
@@ -248,8 +248,8 @@ impl Compiler {
         at(opening.line, self.add_opening(alloc, opening))
     }
 
-    /// Does what makes the thread passive that is at this place. A fault is reported at the line
-    /// that makes it so.
+    /// Adds the steps that make the passive thread at this index passive; a fault is reported at
+    /// the line that declares it.
     fn open(&mut self, alloc: Global, place: usize) -> Result<(), PlanFault>
         requires { place < length self.old.laid.plan.passives.items }
         ensures added { OnOk result (opened_at (laid_said self.old.laid) place ≡ Ok tt) }
@@ -261,7 +261,7 @@ impl Compiler {
         self.do_opening(alloc, &opening)
     }
 
-    /// Makes each passive thread so.
+    /// Adds the steps for each passive thread.
     fn open_each(&mut self, alloc: Global) -> Result<(), PlanFault>
         ensures added { OnOk result
             (openings_said (laid_said self.old.laid) (said self.old.laid.plan).passives ≡ Ok tt) }
@@ -276,7 +276,7 @@ impl Compiler {
         Ok(())
     }
 
-    /// Adds the step by which the thread that made others passive suspends itself, where there is
+    /// Adds the step by which `starter`, which made others passive, suspends itself, if there is
     /// one.
     fn leave(&mut self, alloc: Global) -> Result<(), PlanFault>
         ensures added { OnOk result
@@ -294,7 +294,7 @@ impl Compiler {
     }
 
     /// Adds the steps before the first of the plan: each passive thread receives, and its context
-    /// is taken away; then the thread that did this suspends itself.
+    /// is taken away; then `starter`, which did this, suspends itself.
     fn open_all(&mut self, alloc: Global) -> Result<(), PlanFault>
         ensures added { OnOk result (opened_said (laid_said self.old.laid) ≡ Ok tt) }
         ensures told { IfErr result (RefusesAt (opened_said (laid_said self.old.laid))) }
@@ -305,8 +305,8 @@ impl Compiler {
         self.leave(alloc)
     }
 
-    /// Checks the kind of a line: Mixed where lines of the other kind came before, PassiveUser for
-    /// one of a user where a thread is passive.
+    /// Checks the kind of a line: `Mixed` if lines of the other kind came before, `PassiveUser` for
+    /// a line of a user if a thread is passive.
     fn goes_with(&mut self, head: Head) -> Result<(), Why>
         ensures goes { OnOk result
             (goes_on (laid_said self.old.laid) self.old.entries head.core ≡ Ok self.new.entries) }
@@ -328,7 +328,7 @@ impl Compiler {
         }
     }
 
-    /// Notes that a thread has a line of a user. A fault where it has a program.
+    /// Notes that a thread has a line of a user. Fails if it has a program.
     fn note_user(&mut self, alloc: Global, head: Head) -> Result<(), Why>
         ensures told { IfErr result (λ w. told_by w ≡ None) }
         ensures laid { self.new.laid ≡ self.old.laid }
@@ -363,7 +363,7 @@ impl Compiler {
         Ok(())
     }
 
-    /// Begins the program of a thread. A fault where it has one, or lines of a user.
+    /// Begins the program of a thread. Fails if it has one already, or lines of a user.
     fn open_program(&mut self, alloc: Global, thread: ObjId, number: u64) -> Result<(), Why>
         ensures told { IfErr result (λ w. told_by w ≡ None) }
         ensures laid { self.new.laid ≡ self.old.laid }
@@ -379,7 +379,7 @@ impl Compiler {
         Ok(())
     }
 
-    /// Takes the first line of a program, whose words behind `program` are these.
+    /// Takes the first line of a program, by the words after `program`.
     fn begin_program(&mut self, alloc: Global, number: u64, words: &[&str]) -> Result<(), Why>
         ensures taken { OnOk result (program_begun (laid_said self.old.laid) self.old.entries
             (texts words.now) ≡ Ok self.new.entries) }
@@ -395,7 +395,7 @@ impl Compiler {
         Ok(())
     }
 
-    /// Has the program of a thread take a statement, and adds its line, inside of so many blocks.
+    /// Adds a statement to the program of a thread, and its line, at this depth of blocks.
     fn add_statement(
         &mut self,
         alloc: Global,
@@ -439,7 +439,7 @@ impl Compiler {
         Ok(())
     }
 
-    /// Ends the program. A fault where it has no entry.
+    /// Ends the program. Fails if it has no entry.
     fn close_program(&mut self, alloc: Global) -> Result<(), Why>
         ensures told { IfErr result (λ w. told_by w ≡ None) }
         ensures laid { self.new.laid ≡ self.old.laid }
@@ -488,7 +488,7 @@ impl Compiler {
         }
     }
 
-    /// Fails with Unclosed where a program is open.
+    /// Fails with `Unclosed` if a program is open.
     fn has_closed(&self) -> Result<(), Why>
         ensures closed { OnOk result (all_closed self.now.entries ≡ Ok self.now.entries) }
         ensures told { IfErr result (Refuses (all_closed self.now.entries)) }
@@ -501,7 +501,7 @@ impl Compiler {
         }
     }
 
-    /// Fails with NoStep where no step came before.
+    /// Fails with `NoStep` if there was no step yet.
     fn has_step(&self) -> Result<(), Why>
         ensures ok { OnOk result (need (is_steps self.now.entries) no_step ≡ Ok tt) }
         ensures told { IfErr result (Refuses (need (is_steps self.now.entries) no_step)) }
@@ -512,7 +512,7 @@ impl Compiler {
         }
     }
 
-    /// Adds what is wanted of the step before.
+    /// Adds an expectation of the step before.
     fn add_wanted(&mut self, alloc: Global, words: &[&str]) -> Result<(), Why>
         ensures taken { OnOk result (wanted_taken (laid_said self.old.laid) self.old.entries
             (texts words.now) ≡ Ok self.new.entries) }
@@ -527,7 +527,7 @@ impl Compiler {
         Ok(())
     }
 
-    /// Adds a line with `: ` in it, or begins a program. Late where it is neither.
+    /// Adds a line with `: ` in it, or begins a program. `Late` if it is neither.
     fn add_headed(
         &mut self,
         alloc: Global,
@@ -549,8 +549,7 @@ impl Compiler {
         }
     }
 
-    /// Adds what a line outside of programs says, of which these are the words: the first, and the
-    /// rest.
+    /// Adds the code of a line outside of programs, by its words.
     fn add_words(
         &mut self,
         alloc: Global,
@@ -571,7 +570,7 @@ impl Compiler {
         self.add_headed(alloc, number, code, first, rest)
     }
 
-    /// Adds what a line after the boot says beside its comment.
+    /// Adds the code of a line after the boot, without its comment.
     fn add_code(&mut self, alloc: Global, number: u64, code: &str) -> Result<(), Why>
         ensures taken { OnOk result (code_taken (laid_said self.old.laid) self.old.entries
             code.now ≡ Ok self.new.entries) }
@@ -593,7 +592,7 @@ impl Compiler {
         }
     }
 
-    /// Adds a line after the boot, which has this number, with its comment before it.
+    /// Adds the line with this number after the boot, with its comment before it.
     fn add_line(&mut self, alloc: Global, number: u64, line: &str) -> Result<(), Why>
         ensures taken { OnOk result (line_taken (laid_said self.old.laid) self.old.entries
             line.now ≡ Ok self.new.entries) }
@@ -608,7 +607,7 @@ impl Compiler {
     }
 }
 
-/// The fault of a thread with two programs, or with a program and lines of a user.
+/// Returns the fault of a thread with two programs, or with a program and lines of a user.
 fn both_kinds(alloc: Global) -> Result<Why, AllocError>
     ensures { IfOk result (λ w. told_by w ≡ None) }
 {
@@ -619,7 +618,7 @@ fn both_kinds(alloc: Global) -> Result<Why, AllocError>
     Ok(Why::Program { told })
 }
 
-/// Whether lines or programs of users came.
+/// Returns whether lines or programs of users came.
 fn are_users(entries: Entries) -> bool
     ensures { result ≡ are_users entries }
 {
@@ -629,7 +628,7 @@ fn are_users(entries: Entries) -> bool
     }
 }
 
-/// Takes the line after so many, before the first step.
+/// Takes the line after the first `count` lines, before the first step.
 fn read_next(
     alloc: Global,
     plan: &mut Plan,
@@ -647,7 +646,7 @@ fn read_next(
     at(number, read_before(alloc, plan, front, number, line))
 }
 
-/// The plan that lines say, and the comments among them.
+/// Returns the plan that lines declare, and the comments among them.
 #[tactic(auto, using(crate::proofs::Said::next_said, crate::proofs::Said::line_refused, crate::proofs::Said::all_said))]
 fn read_plan(alloc: Global, lines: &[&str]) -> Result<(Plan, Vec<String>), PlanFault>
     ensures said { IfOk result
@@ -664,7 +663,8 @@ fn read_plan(alloc: Global, lines: &[&str]) -> Result<(Plan, Vec<String>), PlanF
     Ok((plan, front))
 }
 
-/// The plan that lines say before the first step, how many these are, and the comments among them.
+/// Returns the plan that the lines before the first step declare, how many they are, and the
+/// comments among them.
 fn read_front(alloc: Global, lines: &[&str]) -> Result<(Plan, Vec<String>, usize), PlanFault>
     ensures said { IfOk result (λ read. plan_said (texts lines.now) ≡ Ok (said read.0)) }
     ensures before { IfOk result (λ read. read.2 ≡ count_before (texts lines.now)) }
@@ -675,7 +675,7 @@ fn read_front(alloc: Global, lines: &[&str]) -> Result<(Plan, Vec<String>, usize
     Ok((plan, front, before))
 }
 
-/// Takes the line after so many, from the first step on.
+/// Takes the next line from the first step on.
 fn take_next(
     alloc: Global,
     compiler: &mut Compiler,
@@ -712,7 +712,7 @@ fn read_steps(
     Ok(())
 }
 
-/// The script of a plan whose lines were all read.
+/// Returns the script of a plan after its last line.
 fn finish(alloc: Global, compiler: Compiler, comments: Vec<String>) -> Result<Script, Why>
     ensures boot { IfOk result HasBootOfPlan }
     ensures laid { IfOk result (λ s. s.laid ≡ compiler.laid) }
@@ -738,7 +738,7 @@ fn finish(alloc: Global, compiler: Compiler, comments: Vec<String>) -> Result<Sc
     })
 }
 
-/// Takes the lines from the first step on, at whose end no program is open.
+/// Takes the lines from the first step on; no program may be open at the end.
 fn read_all_steps(
     alloc: Global,
     compiler: &mut Compiler,
@@ -757,7 +757,7 @@ fn read_all_steps(
     at(lines.len() as u64, compiler.has_closed())
 }
 
-/// Takes what makes threads passive, and the lines from the first step on.
+/// Adds the steps that make threads passive, and takes the lines from the first step on.
 fn read_behind(
     alloc: Global,
     compiler: &mut Compiler,
@@ -776,7 +776,7 @@ fn read_behind(
     read_all_steps(alloc, compiler, lines, before)
 }
 
-/// The script of a plan that is laid out.
+/// Returns the script of a plan that is laid out.
 fn compile_laid(
     alloc: Global,
     laid: Laid,
@@ -802,7 +802,7 @@ fn compile_laid(
     at(lines.len() as u64, finish(alloc, compiler, front))
 }
 
-/// The script of a plan's lines.
+/// Returns the script of a plan's lines.
 fn compile_lines(alloc: Global, lines: &[&str]) -> Result<Script, PlanFault>
     ensures boot { IfOk result HasBootOfPlan }
     ensures plan { IfOk result (HasPlanOfLines (texts lines.now)) }
@@ -813,7 +813,7 @@ fn compile_lines(alloc: Global, lines: &[&str]) -> Result<Script, PlanFault>
     compile_laid(alloc, laid, lines, before, front)
 }
 
-/// The text of bytes. NotText at the line of the first that is none.
+/// Returns bytes as text. `NotText` at the line of the first byte that is no UTF-8.
 fn text_of(bytes: &[u8]) -> Result<&str, PlanFault>
     ensures text { IfOk result (λ text. text.now ≡ bytes.now) }
     ensures utf8 { OnOk result (is_utf8 bytes.now ≡ true) }
@@ -828,7 +828,7 @@ fn text_of(bytes: &[u8]) -> Result<&str, PlanFault>
     }
 }
 
-/// The lines of a text. Limit where they are too many.
+/// Returns the lines of a text. `Limit` if there are too many.
 fn few_lines(alloc: Global, text: &str) -> Result<Vec<&str>, PlanFault>
     ensures few { IfOk result (λ found. few_lines (lines text.now) ≡ Ok (texts found.items)) }
     ensures told { IfErr result (RefusesAt (few_lines (lines text.now))) }
@@ -860,8 +860,8 @@ fn lines_in(alloc: Global, bytes: &[u8]) -> Result<Vec<&str>, PlanFault>
     few_lines(alloc, text)
 }
 
-/// The script of a plan (own), whose boot is that of the plan. A fault reports the first line that
-/// is refused, and why.
+/// Compiles a plan to a script (own), whose boot is the plan's. A fault names the first refused
+/// line, and the reason.
 #[tactic(auto, using(crate::proofs::Said::has_plan_of, crate::proofs::Said::refused_lines))]
 pub fn compile(alloc: Global, bytes: &[u8]) -> Result<Script, PlanFault>
     ensures boot { IfOk result HasBootOfPlan }

@@ -16,17 +16,17 @@ use std::alloc::{AllocError, Global};
 /// The greatest number of 52 bits.
 const LABEL: u64 = (1 << LABEL_BITS) - 1;
 
-/// What the name of a CNode is not.
+/// What a fault says of the name of a CNode in place of an address.
 const NO_ADDRESS: &str = "an address, since lookup goes on through a CNode: name a slot of it";
 
-/// A thread, which names what it has.
+/// A thread whose table resolves names.
 #[derive(Drop)]
 pub struct Speaker<'a> {
     pub laid: &'a Laid,
     pub thread: ObjId,
 }
 
-/// Adds a number, after a space where it is not the first word.
+/// Appends a number, after a space unless it is the first word.
 pub fn add_number(alloc: Global, to: &mut String, n: u64) -> Result<(), AllocError>
     ensures { OnOk result (string_bytes to.new ≡ with_word (string_bytes to.old) (decimal n)) }
 {
@@ -34,7 +34,7 @@ pub fn add_number(alloc: Global, to: &mut String, n: u64) -> Result<(), AllocErr
     add_word(to, digits.as_str())
 }
 
-/// A letter, where rights have this one.
+/// Returns the letter of a right, if these rights have it.
 fn right_letter(rights: u8, right: u8, letter: &'static str) -> &'static str
     ensures { result.now ≡ right_letter rights right letter.now }
 {
@@ -70,7 +70,7 @@ fn read_rights(alloc: Global, to: &mut String, words: &mut Words<'_>) -> Result<
     Ok(add_word(to, text.as_str())?)
 }
 
-/// Whether a word is the kind of what is made.
+/// Returns whether a word is the kind of what is made.
 fn is_made(word: &str) -> bool
     ensures { result ≡ is_made word.now }
 {
@@ -107,7 +107,7 @@ fn read_number(
     Ok(add_number(alloc, to, n)?)
 }
 
-/// Reads words of a message, as far as the line goes.
+/// Reads words of a message, to the end of the line.
 #[tactic(auto, using(crate::proofs::Fielded::numbers_turn, crate::proofs::Fielded::numbers_refused, crate::proofs::Fielded::number_left, crate::proofs::Fielded::no_numbers))]
 pub fn read_words(
     alloc: Global,
@@ -126,7 +126,7 @@ pub fn read_words(
     Ok(())
 }
 
-/// Reads a label and words, as far as the line goes.
+/// Reads a label and words, to the end of the line.
 fn read_message(alloc: Global, to: &mut String, words: &mut Words<'_>) -> Result<(), Why>
     ensures put { OnOk result
         (message_more words.old (string_bytes to.old) ≡ Ok (string_bytes to.new, words.new)) }
@@ -151,7 +151,7 @@ fn read_depth(alloc: Global, words: &mut Words<'_>) -> Result<u8, Why>
     Ok(depth.min(255) as u8)
 }
 
-/// Reads a place with this index, and the depth that follows it.
+/// Reads the depth after an index, and returns the place.
 fn index_place(alloc: Global, index: u64, words: &mut Words<'_>) -> Result<Place, Why>
     ensures place { IfOk result (λ p. place_with index words.old ≡ Ok (p, words.new)) }
     ensures told { IfErr result (Refuses (place_with index words.old)) }
@@ -161,7 +161,7 @@ fn index_place(alloc: Global, index: u64, words: &mut Words<'_>) -> Result<Place
 }
 
 impl<'a> Speaker<'a> {
-    /// Returns an address: that of a name, or a number. Not where the name is that of a CNode.
+    /// Returns an address: that of a name, or a number. `Not` for the name of a CNode.
     fn address(&self, alloc: Global, word: &str) -> Result<u64, Why>
         ensures stands { IfOk result
             (λ a. address_read (laid_said self.now.laid.now) self.now.thread word.now ≡ Ok a) }
@@ -178,7 +178,7 @@ impl<'a> Speaker<'a> {
         }
     }
 
-    /// The place that a name stands for.
+    /// Returns the place that a name means.
     fn named_place(&self, alloc: Global, word: &str) -> Result<Place, Why>
         ensures stands { IfOk result (λ p.
             place_named (laid_said self.now.laid.now) self.now.thread word.now ≡ Ok p) }
@@ -203,7 +203,7 @@ impl<'a> Speaker<'a> {
         }
     }
 
-    /// Reads an address, and adds it as a number.
+    /// Reads an address, and appends it as a number.
     fn read_address(&self, alloc: Global, to: &mut String, words: &mut Words<'_>) -> Result<(), Why>
         ensures put { OnOk result (address_more (laid_said self.now.laid.now) self.now.thread
             words.old (string_bytes to.old) ≡ Ok (string_bytes to.new, words.new)) }
@@ -215,7 +215,7 @@ impl<'a> Speaker<'a> {
         Ok(add_number(alloc, to, address)?)
     }
 
-    /// Reads a place, and adds it as two numbers.
+    /// Reads a place, and appends it as two numbers.
     fn read_place(&self, alloc: Global, to: &mut String, words: &mut Words<'_>) -> Result<(), Why>
         ensures put { OnOk result (place_more (laid_said self.now.laid.now) self.now.thread
             words.old (string_bytes to.old) ≡ Ok (string_bytes to.new, words.new)) }
@@ -275,7 +275,7 @@ impl<'a> Speaker<'a> {
         Ok(())
     }
 
-    /// Writes the entry that words spell, after which no word may be left.
+    /// Writes the entry that words spell; no word may be left after it.
     pub fn read(&self, alloc: Global, to: &mut String, words: &mut Words<'_>) -> Result<(), Why>
         ensures put { OnOk result (entry_more (laid_said self.now.laid.now) self.now.thread
             words.old (string_bytes to.old) ≡ Ok (string_bytes to.new)) }

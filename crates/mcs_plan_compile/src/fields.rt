@@ -1,8 +1,8 @@
-//! What follows the word of an entry.
+//! The operands of entries.
 ghost use Rattle.std.specs.Prelude.{◌≡◌};
 ghost use Rattle.mcs_plan_compile.specs.Fields.{address_if, addresses, sends, address_count, send_count, placing, fields_of};
 
-/// A word of an entry, or a few.
+/// An operand of an entry: one word or more.
 #[derive(Clone, Copy)]
 pub enum Field {
     /// A capability.
@@ -14,16 +14,16 @@ pub enum Field {
     Badge,
     /// The kind of object that is made.
     Kind,
-    /// A label and words, as far as the line goes.
+    /// A label and words, to the end of the line.
     Message,
     /// Nothing.
     End,
 }
 
-/// Up to four of them.
+/// Up to four operands.
 pub type Fields = [Field; 4];
 
-/// An address, where there are so many.
+/// Returns an address, if there are this many.
 fn address_if(place: u8, count: u8) -> Field
     ensures { result ≡ address_if place count }
 {
@@ -34,7 +34,7 @@ fn address_if(place: u8, count: u8) -> Field
     }
 }
 
-/// Up to three addresses.
+/// Returns up to three addresses.
 fn addresses(count: u8) -> Fields
     ensures { result ≡ addresses count }
 {
@@ -46,7 +46,7 @@ fn addresses(count: u8) -> Fields
     ]
 }
 
-/// Up to three addresses, and a message.
+/// Returns up to three addresses, and a message.
 fn sends(count: u8) -> Fields
     ensures { result ≡ sends count }
 {
@@ -58,8 +58,8 @@ fn sends(count: u8) -> Fields
     ]
 }
 
-/// How many addresses follow the word of an entry that has nothing else; None where it is none of
-/// these.
+/// Returns how many addresses follow the word of an entry with no other operands; None for other
+/// words.
 fn address_count(key: &str) -> Option<u8>
     ensures { result ≡ address_count key.now }
 {
@@ -71,7 +71,8 @@ fn address_count(key: &str) -> Option<u8>
     }
 }
 
-/// How many follow the word of one that sends a message; None where it is none of these.
+/// Returns how many addresses follow the word of an entry that sends a message; None for other
+/// words.
 fn send_count(key: &str) -> Option<u8>
     ensures { result ≡ send_count key.now }
 {
@@ -83,8 +84,7 @@ fn send_count(key: &str) -> Option<u8>
     }
 }
 
-/// What follows the word of one that names places, or sets a priority; None where it is none of
-/// these.
+/// Returns the operands of an entry that names places, or sets a priority; None for other words.
 fn placing(key: &str) -> Option<Fields>
     ensures { result ≡ placing key.now }
 {
@@ -99,7 +99,7 @@ fn placing(key: &str) -> Option<Fields>
     }
 }
 
-/// Returns the fields after an entry's keyword; None if the word is no keyword.
+/// Returns the operands of an entry by its word; None if the word is no entry.
 pub fn fields_of(key: &str) -> Option<Fields>
     ensures { result ≡ fields_of key.now }
 {

@@ -1,9 +1,9 @@
-//! From a plan to a script, line by line.
+//! Compiles a plan to a script, line by line.
 //!
 //! ```text
 //! bytes ── lines ──> lines
 //! lines before the first step ── mcs_plan_source ──> Plan ── mcs_plan_layout ──> Laid: the boot,
-//!     and what each thread names
+//!     and the table of names of each thread
 //! lines of steps and of users ── steps, entries ──> the same lines, with addresses for names
 //! lines of programs ── programs ──> lines `#! THREAD: STATEMENT`, with addresses for names
 //! lines that begin with `?`   ── wanting ──> what `mcslab check` reads

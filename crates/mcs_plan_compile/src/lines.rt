@@ -10,8 +10,8 @@ ghost use Rattle.mcs_plan_compile.specs.Stepping.{cut_at_colon, asks, begins_pro
 use mcs_plan_source::{Why, is_white, split_comment};
 use std::alloc::{AllocError, Global};
 
-/// How many bytes a line of a plan, or one that is made of it, may have (own): a script's may have
-/// 4,096.
+/// How many bytes a line of a plan, or of the script made from it, may have (own); a script may
+/// have lines of 4,096.
 pub const LINE_BYTES: usize = 4_000;
 
 /// The lines of a text.
@@ -21,7 +21,7 @@ pub fn lines_of<'a>(alloc: Global, text: &'a str) -> Result<Vec<&'a str>, AllocE
     text.lines().collect(alloc)
 }
 
-/// How many newlines there are.
+/// Returns how many newlines there are.
 fn count_newlines(bytes: &[u8]) -> usize
     ensures value { result ≡ count_by (λ b. b == 10) bytes.now }
     ensures bound { result ≤ length bytes.now }
@@ -35,7 +35,7 @@ fn count_newlines(bytes: &[u8]) -> usize
     count
 }
 
-/// The number of the line in which a byte is.
+/// Returns the number of the line that contains the byte at this index.
 pub fn line_of(bytes: &[u8], place: usize) -> u64
     requires { place < length bytes.now }
     ensures { result ≡ line_of bytes.now place }
@@ -57,8 +57,8 @@ pub fn is_short(line: &str) -> Result<(), Why>
     })
 }
 
-/// A comment of a script; one that begins with `!` is a question to all orders, which is there as
-/// it is.
+/// Returns a comment of a script; one that begins with `!` is a question to all orders, and stays
+/// as it is.
 fn comment_of(alloc: Global, comment: &str) -> Result<String, AllocError> {
     let comment = comment.trim();
     if comment.is_empty() {
@@ -70,7 +70,7 @@ fn comment_of(alloc: Global, comment: &str) -> Result<String, AllocError> {
     Ok(text)
 }
 
-/// Adds the comment of a line, where it has one.
+/// Adds the comment of a line, if it has one.
 pub fn add_comment(
     alloc: Global,
     to: &mut Vec<String>,
@@ -82,14 +82,14 @@ pub fn add_comment(
     Ok(())
 }
 
-/// What is before the first colon that a space follows, and what after the two.
+/// Returns a text before its first colon with a space after it, and what follows both.
 pub fn split_colon(text: &str) -> Option<(&str, &str)>
     ensures { option_map (λ p. (p.0.now, p.1.now)) result ≡ cut_at_colon text.now }
 {
     text.split_once(": ")
 }
 
-/// Whether the first byte after white space is `?`.
+/// Returns whether a text, after white space, begins with `?`.
 fn asks(text: &[u8]) -> bool
     ensures { result ≡ asks text.now }
 {
@@ -101,7 +101,7 @@ fn asks(text: &[u8]) -> bool
     false
 }
 
-/// Whether a text is `program`, with white space behind it or nothing.
+/// Returns whether a text is the word `program`.
 fn is_program_word(text: &[u8]) -> bool
     ensures { result ≡ is_program_word text.now }
 {
@@ -112,7 +112,7 @@ fn is_program_word(text: &[u8]) -> bool
     }
 }
 
-/// Whether the first word is `program`.
+/// Returns whether the first word is `program`.
 fn begins_program(text: &[u8]) -> bool
     ensures { result ≡ begins_program text.now }
 {
@@ -124,7 +124,7 @@ fn begins_program(text: &[u8]) -> bool
     false
 }
 
-/// Whether a line is that of a step, of a user, or of what is wanted, or the first of a program.
+/// Returns whether a line is a step, an expectation, a line of a user, or the first of a program.
 fn begins_steps(line: &str) -> bool
     ensures { result ≡ begins_steps line.now }
 {
@@ -133,7 +133,7 @@ fn begins_steps(line: &str) -> bool
     split_colon(code).is_some() || asks(bytes) || begins_program(bytes)
 }
 
-/// How many lines are before the first step.
+/// Returns how many lines are before the first step.
 pub fn count_before(lines: &[&str]) -> usize
     ensures value { result ≡ count_before (texts lines.now) }
     ensures bound { result ≤ length lines.now }

@@ -5,7 +5,7 @@ use mcs_plan_layout::Named;
 use mcs_types::{Kind, ObjId};
 use std::alloc::{AllocError, Global};
 
-/// Adds a cell of at least so many columns, and two more.
+/// Appends a cell, padded to `columns` columns and two more.
 fn add_cell(to: &mut String, text: &str, columns: usize) -> Result<(), AllocError> {
     to.push_str(text)?;
     let missing = columns.saturating_add(2).saturating_sub(text.len());
@@ -15,7 +15,7 @@ fn add_cell(to: &mut String, text: &str, columns: usize) -> Result<(), AllocErro
     Ok(())
 }
 
-/// The name of the thread at this place.
+/// Returns the name of the thread at this index.
 fn thread_name(script: &Script, place: usize) -> &str {
     let thread = ObjId {
         kind: Kind::Thread,
@@ -24,7 +24,7 @@ fn thread_name(script: &Script, place: usize) -> &str {
     script.laid.plan.names.name_of(thread)
 }
 
-/// The most columns of a thread's names.
+/// Returns the width of the widest name of a thread, at least `least`.
 fn widest(table: &[Named], least: usize) -> usize {
     let mut most = least;
     for named in table {
@@ -33,7 +33,7 @@ fn widest(table: &[Named], least: usize) -> usize {
     most
 }
 
-/// The columns of the threads, and of their names.
+/// Returns the widths of the columns of threads and of their names.
 fn widths(script: &Script) -> (usize, usize) {
     let mut threads = "thread".len();
     let mut names = "name".len();
@@ -54,7 +54,7 @@ fn address_text(alloc: Global, named: &Named) -> Result<String, AllocError> {
     }
 }
 
-/// Adds a line of the table.
+/// Appends a line of the table.
 fn add_named(
     alloc: Global,
     to: &mut String,
@@ -85,8 +85,8 @@ fn add_objects(alloc: Global, to: &mut String, script: &Script) -> Result<(), Al
     Ok(())
 }
 
-/// Writes a line for each name of each thread: the thread, the name, the address, which is a dash
-/// for a CNode, and the capability as the plan wrote it; then the objects and their names.
+/// Returns a line for each name of each thread: the thread, the name, the address (a dash for a
+/// CNode), and the capability as the plan has it; then the objects and their names.
 pub fn write_map(alloc: Global, script: &Script) -> Result<String, AllocError> {
     let (threads, names) = widths(script);
     let mut to = String::new(alloc);

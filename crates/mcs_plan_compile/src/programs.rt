@@ -16,7 +16,7 @@ use mcs_plan_source::{Why, Words, add_word, split_words};
 use mcs_types::ObjId;
 use std::alloc::{AllocError, Global};
 
-/// Whether a word is the name of what follows it.
+/// Returns whether a word names what follows it: it ends with a colon.
 fn ends_with_colon(word: &[u8]) -> bool
     ensures { result ≡ ends_with_colon word.now }
 {
@@ -26,7 +26,7 @@ fn ends_with_colon(word: &[u8]) -> bool
     }
 }
 
-/// The words behind the name of an entry or a block, if they have one.
+/// Returns the words after the name of an entry or a block, if they begin with one.
 fn behind_name<'w, 'a>(words: &'w [&'a str]) -> &'w [&'a str]
     ensures { texts result.now ≡ behind_name (texts words.now) }
 {
@@ -36,7 +36,7 @@ fn behind_name<'w, 'a>(words: &'w [&'a str]) -> &'w [&'a str]
     }
 }
 
-/// Whether words spell an entry: the first is the word of one.
+/// Returns whether words spell an entry, by the first of them.
 fn is_entry(words: &[&str]) -> bool
     ensures { result ≡ is_entry (texts words.now) }
 {
@@ -46,7 +46,7 @@ fn is_entry(words: &[&str]) -> bool
     }
 }
 
-/// Whether a word is a value: it begins with `$`.
+/// Returns whether a word is a value: it begins with `$`.
 fn is_value(word: &[u8]) -> bool
     ensures { result ≡ is_value word.now }
 {
@@ -56,7 +56,7 @@ fn is_value(word: &[u8]) -> bool
     }
 }
 
-/// A word of an entry, with 0 for a value.
+/// Returns a word of an entry, or 0 for a value.
 fn zeroed<'a>(word: &'a str) -> &'a str
     ensures { result.now ≡ zeroed word.now }
 {
@@ -74,7 +74,7 @@ fn without_values<'a>(alloc: Global, words: &[&'a str]) -> Result<Vec<&'a str>, 
     Ok(plain)
 }
 
-/// The word of an entry at so many places from its end, where that is a value.
+/// Returns the word of an entry at this distance from its end, if it is a value.
 fn value_at<'a>(words: &[&'a str], left: usize) -> Option<&'a str> {
     let word = *words.get(words.len().checked_sub(left)?)?;
     if is_value(word.as_bytes()) {
@@ -84,8 +84,8 @@ fn value_at<'a>(words: &[&'a str], left: usize) -> Option<&'a str> {
     }
 }
 
-/// Adds an entry as a script spells it, behind its thread, with the values that its words have: a
-/// message is at the end of both.
+/// Appends an entry as a script spells it, after its thread, with the values of the statement's
+/// words: in both, the message is at the end.
 fn add_entry(alloc: Global, to: &mut String, line: &str, words: &[&str]) -> Result<(), AllocError> {
     let spelled = split_words(alloc, line)?;
     for place in 2..spelled.len() {
@@ -104,7 +104,7 @@ fn add_words(to: &mut String, words: &[&str]) -> Result<(), AllocError> {
     Ok(())
 }
 
-/// The entry of a program, as a line of a user with 0 for each value.
+/// Returns the entry of a program as a line of a user, with 0 for each value.
 fn plain_entry(alloc: Global, laid: &Laid, thread: ObjId, words: &[&str]) -> Result<String, Why>
     ensures said { OnOk result
         (entry_said (laid_said laid.now) thread (texts words.now) ≡ Ok tt) }
@@ -116,7 +116,7 @@ fn plain_entry(alloc: Global, laid: &Laid, thread: ObjId, words: &[&str]) -> Res
     write_entry(alloc, laid, head, &plain)
 }
 
-/// The statement that words spell, as a script has it.
+/// Returns the statement that words spell, as a script has it.
 pub fn statement_text(
     alloc: Global,
     laid: &Laid,
@@ -141,7 +141,7 @@ pub fn statement_text(
     Ok(text)
 }
 
-/// Whether a statement closes a block.
+/// Returns whether a statement closes a block.
 fn closes(words: &[&str]) -> bool
     ensures { result ≡ closes (texts words.now) }
 {
@@ -151,7 +151,7 @@ fn closes(words: &[&str]) -> bool
     }
 }
 
-/// Whether a statement opens a block.
+/// Returns whether a statement opens a block.
 fn opens(words: &[&str]) -> bool
     ensures { result ≡ opens (texts words.now) }
 {
@@ -161,7 +161,7 @@ fn opens(words: &[&str]) -> bool
     }
 }
 
-/// How many blocks are open behind what a statement closes.
+/// Returns how many blocks are open after what a statement closes.
 pub fn open_still(blocks: usize, words: &[&str]) -> usize
     ensures { result ≡ open_still blocks (texts words.now) }
 {
@@ -172,7 +172,7 @@ pub fn open_still(blocks: usize, words: &[&str]) -> usize
     }
 }
 
-/// How many blocks are open behind a statement. Limit where these are too many.
+/// Returns how many blocks are open after a statement. `Limit` if these are too many.
 pub fn open_behind(blocks: usize, words: &[&str]) -> Result<usize, Why>
     ensures blocks { IfOk result (λ n. open_behind blocks (texts words.now) ≡ Ok n) }
     ensures told { IfErr result (Refuses (open_behind blocks (texts words.now))) }
@@ -190,7 +190,7 @@ pub fn open_behind(blocks: usize, words: &[&str]) -> Result<usize, Why>
     })
 }
 
-/// Whether a statement closes the program.
+/// Returns whether a statement closes the program.
 pub fn is_end(blocks: usize, words: &[&str]) -> bool
     ensures { result ≡ is_end blocks (texts words.now) }
 {
@@ -209,7 +209,7 @@ pub fn program_head(alloc: Global, laid: &Laid, words: &mut Words<'_>) -> Result
     Ok(thread)
 }
 
-/// The fault that is told of a program.
+/// Returns the plan's fault for a fault of a program.
 pub fn fault_of(alloc: Global, fault: ProgramFault) -> Why
     ensures { told_by result ≡ None }
 {
@@ -219,8 +219,8 @@ pub fn fault_of(alloc: Global, fault: ProgramFault) -> Why
     }
 }
 
-/// The line of a script that has a statement of the thread of this name, inside of so many blocks.
-/// A fault where it is too long for a script.
+/// Returns the script's line for a statement of the thread with this name, inside of `blocks`
+/// blocks. Fails if it is too long for a script.
 pub fn program_line(alloc: Global, name: &str, blocks: usize, text: &str) -> Result<String, Why>
     ensures { IfErr result (λ w. told_by w ≡ None) }
 {

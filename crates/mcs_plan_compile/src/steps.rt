@@ -17,14 +17,14 @@ use mcs_text::letter;
 use mcs_types::{CoreId, Kind, ObjId};
 use std::alloc::{AllocError, Global};
 
-/// The thread that enters, and its core: None for a user.
+/// The entering thread, and its core: None for a user.
 #[derive(Clone, Copy)]
 pub struct Head {
     pub thread: ObjId,
     pub core: Option<CoreId>,
 }
 
-/// The name of an object in a script.
+/// Returns the id of an object as text.
 pub fn object_text(alloc: Global, object: ObjId) -> Result<String, AllocError>
     ensures { IfOk result (λ text. string_bytes text ≡ object_text object) }
 {
@@ -63,7 +63,7 @@ fn core_said(alloc: Global, laid: &Laid, words: &mut Words<'_>) -> Result<CoreId
     Ok(CoreId(core))
 }
 
-/// Reads the core of a step: that which the line says, or the thread's.
+/// Reads the core of a step: the one on the line, or the thread's.
 fn read_core(
     alloc: Global,
     laid: &Laid,
@@ -114,14 +114,14 @@ fn user_head(alloc: Global, laid: &Laid, words: &mut Words<'_>) -> Result<Head, 
     Ok(Head { thread, core: None })
 }
 
-/// Whether a line is that of a user: a name follows `user`.
+/// Returns whether a line is that of a user: a name follows `user`.
 fn is_user(first: &str, words: &Words<'_>) -> bool
     ensures { result ≡ is_user first.now words.now }
 {
     first == "user" && words.peek().is_some()
 }
 
-/// What is before the colon: `NAME`, `NAME on core N`, or `user NAME`.
+/// Returns what is before the colon: `NAME`, `NAME on core N`, or `user NAME`.
 pub fn read_head(alloc: Global, laid: &Laid, text: &str) -> Result<Head, Why>
     ensures head { IfOk result (λ h. head_read (laid_said laid.now) (words_of text.now) ≡ Ok h) }
     ensures told { IfErr result (Refuses (head_read (laid_said laid.now) (words_of text.now))) }
@@ -135,7 +135,7 @@ pub fn read_head(alloc: Global, laid: &Laid, text: &str) -> Result<Head, Why>
     step_head(alloc, laid, first, &mut words)
 }
 
-/// The core of a step, or the word of a user.
+/// Returns the core of a step as text, or the word `user`.
 fn core_text(alloc: Global, core: Option<CoreId>) -> Result<String, AllocError>
     ensures { IfOk result (λ text. string_bytes text ≡ core_text core) }
 {
@@ -146,7 +146,7 @@ fn core_text(alloc: Global, core: Option<CoreId>) -> Result<String, AllocError>
     format!(in alloc; "{core}")
 }
 
-/// The thread that enters, and its core.
+/// Returns the entering thread and its core as text.
 fn head_text(alloc: Global, head: Head) -> Result<String, AllocError>
     ensures { IfOk result (λ text. string_bytes text ≡ head_text head) }
 {
@@ -156,7 +156,7 @@ fn head_text(alloc: Global, head: Head) -> Result<String, AllocError>
     Ok(text)
 }
 
-/// The line of a step, or of a user: the thread that enters, and the entry that words spell.
+/// Returns the line of a step, or of a user: the entering thread, and the entry that words spell.
 pub fn write_entry(alloc: Global, laid: &Laid, head: Head, words: &[&str]) -> Result<String, Why>
     ensures put { IfOk result
         (λ line. step_read (laid_said laid.now) head (texts words.now) ≡ Ok (string_bytes line)) }

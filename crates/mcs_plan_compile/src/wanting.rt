@@ -1,4 +1,4 @@
-//! What is wanted of a step: lines that begin with `?`.
+//! Expectations of a step: lines that begin with `?`.
 ghost use Rattle.std.specs.Prelude.{◌≡◌, ◌++◌, Ok, IfOk, IfErr, OnOk, codes, option_map, string_bytes};
 ghost use Rattle.mcs_plan_source.specs.Naming.{texts};
 ghost use Rattle.mcs_plan_source.specs.Refusals.{Refuses};
@@ -12,7 +12,7 @@ use mcs_plan_source::{Names, Why, Words, add_word, not, number};
 use mcs_types::{Kind, ObjId};
 use std::alloc::{AllocError, Global};
 
-/// Whether a word is the first of an answer.
+/// Returns whether a word begins an answer.
 fn begins_answer(word: &str) -> bool
     ensures { result ≡ begins_answer word.now }
 {
@@ -22,7 +22,7 @@ fn begins_answer(word: &str) -> bool
     )
 }
 
-/// Whether a word asks where a thread is, or what it has.
+/// Returns whether a word asks about a thread's state, or what it has.
 fn asks_state(word: &str) -> bool
     ensures { result ≡ asks_state word.now }
 {
@@ -32,7 +32,7 @@ fn asks_state(word: &str) -> bool
     )
 }
 
-/// Whether a word asks what a thread was answered, or what is tied to an object.
+/// Returns whether a word asks what reached a thread, or what is bound to an object.
 fn asks_tie(word: &str) -> bool
     ensures { result ≡ asks_tie word.now }
 {
@@ -42,21 +42,21 @@ fn asks_tie(word: &str) -> bool
     )
 }
 
-/// Whether a word asks what an object owes or keeps.
+/// Returns whether a word asks what an object owes or holds.
 fn asks_debt(word: &str) -> bool
     ensures { result ≡ asks_debt word.now }
 {
     matches!(word, "owes" | "with" | "pending")
 }
 
-/// Whether a word of a question follows what that asks of.
+/// Returns whether a word is one that follows the subject of a question.
 fn is_asked(word: &str) -> bool
     ensures { result ≡ is_asked word.now }
 {
     asks_state(word) || asks_tie(word) || asks_debt(word)
 }
 
-/// Whether an object has a queue of this name.
+/// Returns whether an object has a queue of this name.
 fn has_queue(object: ObjId, end: &str) -> bool
     ensures { result ≡ has_queue object.kind end.now }
 {
@@ -67,7 +67,7 @@ fn has_queue(object: ObjId, end: &str) -> bool
     }
 }
 
-/// What is in front of the last dot of a word, and after it.
+/// Returns a word before its last dot, and what follows the dot.
 fn cut_at_dot(word: &str) -> Option<(&str, &str)>
     ensures { option_map (λ p. (p.0.now, p.1.now)) result ≡ cut_at_dot word.now }
 {
@@ -102,7 +102,7 @@ fn queue_named(alloc: Global, names: &Names, word: &str) -> Result<Option<String
     Ok(Some(queue_text(alloc, object, end)?))
 }
 
-/// The object or the queue that a word of a plan names.
+/// Returns the object or the queue that a word of a plan names.
 fn subject_of(alloc: Global, names: &Names, word: &str) -> Result<Option<String>, AllocError>
     ensures { IfOk result (λ text. option_map (λ t. string_bytes t) text
         ≡ subject_text names.now word.now) }
@@ -113,7 +113,7 @@ fn subject_of(alloc: Global, names: &Names, word: &str) -> Result<Option<String>
     }
 }
 
-/// Adds what a question asks of. NoName where the word names nothing.
+/// Appends the subject of a question. `NoName` if the word names nothing.
 fn add_subject(alloc: Global, names: &Names, to: &mut String, word: &str) -> Result<(), Why>
     ensures put { OnOk result
         (subject_more names.now word.now (string_bytes to.old) ≡ Ok (string_bytes to.new)) }
@@ -126,7 +126,8 @@ fn add_subject(alloc: Global, names: &Names, to: &mut String, word: &str) -> Res
     }
 }
 
-/// Adds a word after a question: a name, a number, `-` or `nothing`. NoName for any other.
+/// Appends a word of a question's answer: a name, a number, `-` or `nothing`. `NoName` for any
+/// other word.
 fn add_answer(alloc: Global, names: &Names, to: &mut String, word: &str) -> Result<(), Why>
     ensures put { OnOk result
         (answer_more names.now word.now (string_bytes to.old) ≡ Ok (string_bytes to.new)) }
@@ -141,7 +142,7 @@ fn add_answer(alloc: Global, names: &Names, to: &mut String, word: &str) -> Resu
     add_subject(alloc, names, to, word)
 }
 
-/// Adds the words after a question, as far as the line goes.
+/// Appends the words of a question's answer, to the end of the line.
 #[tactic(auto, using(crate::proofs::Answered::answer_turn, crate::proofs::Answered::answer_refused, crate::proofs::Answered::no_answers))]
 fn add_answers(
     alloc: Global,
@@ -162,7 +163,7 @@ fn add_answers(
     Ok(())
 }
 
-/// Reads an answer: its words are numbers.
+/// Reads an answer, whose words are numbers.
 fn read_answer(alloc: Global, first: &str, words: &mut Words<'_>) -> Result<String, Why>
     ensures text { IfOk result (λ t. answer_read first.now words.old ≡ Ok (string_bytes t)) }
     ensures told { IfErr result (Refuses (answer_read first.now words.old)) }
@@ -173,7 +174,7 @@ fn read_answer(alloc: Global, first: &str, words: &mut Words<'_>) -> Result<Stri
     Ok(text)
 }
 
-/// Adds the word of a question, and those after it.
+/// Appends the word of a question, and those after it.
 fn add_asked(
     alloc: Global,
     names: &Names,
@@ -192,7 +193,7 @@ fn add_asked(
     add_answers(alloc, names, to, words)
 }
 
-/// Reads a question: what it asks of, then `waits` or another word of questions, then names and
+/// Reads a question: its subject, then `waits` or another word of questions, then names and
 /// numbers.
 fn read_question(
     alloc: Global,
@@ -214,14 +215,14 @@ fn read_question(
     Ok(text)
 }
 
-/// Whether a word is why a step is skipped.
+/// Returns whether a word is a reason why a step is skipped.
 fn is_reason(word: &str) -> bool
     ensures { result ≡ is_reason word.now }
 {
     matches!(word, "NotRunning" | "NoContext" | "WrongCore")
 }
 
-/// Reads that the step is skipped, and why.
+/// Reads that the step is skipped, and the reason.
 fn read_away(alloc: Global, words: &mut Words<'_>) -> Result<String, Why>
     ensures text { IfOk result (λ t. away_read words.old ≡ Ok (string_bytes t)) }
     ensures told { IfErr result (Refuses (away_read words.old)) }
@@ -238,8 +239,8 @@ fn read_away(alloc: Global, words: &mut Words<'_>) -> Result<String, Why>
     Ok(text)
 }
 
-/// What follows `?`: an answer, as `got 1 2 17`, or a question, as `fs waits fs.ep.recv`, or
-/// `away`, with its reason.
+/// Returns what follows `?`, as a script has it: an answer, as `got 1 2 17`, a question, as `fs
+/// waits fs.ep.recv`, or `away` with its reason.
 pub fn read_wanted(alloc: Global, names: &Names, words: &[&str]) -> Result<String, Why>
     ensures text { IfOk result
         (λ t. wanted_read names.now (texts words.now) ≡ Ok (string_bytes t)) }

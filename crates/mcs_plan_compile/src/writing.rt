@@ -4,7 +4,7 @@ use mcs_text::Key;
 use mcs_trace::Line as Text;
 use std::alloc::{AllocError, Global};
 
-/// Lines, each with its newline.
+/// Appends lines, each with its newline.
 fn add_lines(to: &mut Vec<u8>, lines: &[String]) -> Result<(), AllocError> {
     for line in lines {
         to.extend_from_slice(line.as_bytes())?;

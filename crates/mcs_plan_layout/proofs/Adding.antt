@@ -9,7 +9,7 @@ module _ {X : Type 0} where
   both : (old mid new part more : List X) → mid ≡ old ++ part → new ≡ mid ++ more → new ≡ old ++ (part ++ more)
   both old mid new part more before now = now ∙ ap (λ l. l ++ more) before ∙ append_assoc old part more
 
-  -- what comes of each of so many, and of the next
+  -- what comes of each of this many, and of the next
   pub each_turn : (f : ℕ → List X) (n : ℕ) (old mid new : List X) → mid ≡ old ++ each n f → new ≡ mid ++ f n → new ≡ old ++ each (n + 1) f
   each_turn f n old mid new before now =
       let next : suc n ≡ n + 1 = omega arith in

@@ -63,7 +63,7 @@ thread_line layouts t =
 abbrev pub tie_line : Tie → BootLine
 tie_line t = line.Tie t.thread t.notification
 
--- the lines, or whatever comes, of each of so many, from 0
+-- the lines, or whatever comes, of each of this many, from 0
 abbrev pub each : {X : Type 0} → ℕ → (ℕ → List X) → List X
 each zero lines = []
 each (suc n) lines = each n lines ++ lines n

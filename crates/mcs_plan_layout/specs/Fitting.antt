@@ -16,7 +16,7 @@ use Rattle.mcs_plan_layout.specs.declared.boot.Site.{Site}
 abbrev pub cnodes_of : Said → ℕ
 cnodes_of s = length s.spaces + sum_by leaves_in s.spaces
 
--- there may be so many of a kind
+-- there may be this many of a kind
 abbrev pub may_be : Kind → ℕ → Read (Unit {0})
 may_be kind count = need (nat_le count (limit_of kind)) (limit (limit_of kind))
 

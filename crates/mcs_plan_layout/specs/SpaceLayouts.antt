@@ -15,11 +15,11 @@ pub record IsLaidOut (l : Layout) : Type 0 where
   pub leaf : l.leaf ≤ 8
   pub within : l.within ≤ 16
 
--- a guard of so many bits, all of them 0
+-- a guard of this many bits, all of them 0
 abbrev pub zero_guard : ℕ → Guard
 zero_guard bits = record { bits = bits; value = 0 }
 
--- how many bits name one of so many things: as few as do, from 1 to 8
+-- how many bits name one of this many things: as few as do, from 1 to 8
 abbrev pub bits_for : ℕ → ℕ
 bits_for count =
     if nat_le count 2 then 1
@@ -35,7 +35,7 @@ bits_for count =
 abbrev pub layout_of_radix : ℕ → Layout
 layout_of_radix radix = record { root = radix; leaf = 0; within = 0 }
 
--- the layout of so many slots: one CNode for up to 256 of them, and more in the root for a larger
+-- the layout of this many slots: one CNode for up to 256 of them, and more in the root for a larger
 -- space
 abbrev pub layout_of_slots : ℕ → Layout
 layout_of_slots slots =

@@ -47,7 +47,7 @@ abbrev pub address_in : Layout → ℕ → ℕ
 address_in l index = index * 2 ^ l.within
 
 -- the address by which an entry names what a slot holds: none where that is a capability to a
--- CNode, since lookup goes on through it
+-- CNode, since lookup continues through it
 abbrev pub naming_address : Option Cap → ℕ → Option ℕ
 naming_address None address = Some address
 naming_address (Some cap) address = if same_kind cap.obj.kind kind.CNode then None else Some address

@@ -21,8 +21,7 @@ use mcs_plan_source::{Space, Thread, Why};
 use mcs_types::{BootLine, Cap, Guard, Kind, ObjId};
 use std::alloc::{AllocError, Global};
 
-/// Where the slots of a space are: in its root, the CNode at a place, or in so many others, the
-/// first of them at another place.
+/// Where the slots of a space are: in its root, the CNode at index `root`, or in further CNodes.
 #[derive(Clone, Copy)]
 pub struct Site {
     pub place: usize,
@@ -30,7 +29,7 @@ pub struct Site {
     pub leaves: u32,
 }
 
-/// The CNode of this place among CNodes.
+/// Returns the id of the CNode at this index.
 fn cnode(place: usize) -> ObjId
     requires { place < cnode_limit }
     ensures { result ≡ cnode_at place }
@@ -42,7 +41,7 @@ fn cnode(place: usize) -> ObjId
 }
 
 impl Site {
-    /// The CNode that a slot is in.
+    /// Returns the CNode that contains a slot.
     fn cnode(self, index: u32) -> ObjId
         requires within { IsWithin self }
         requires index { 0 < self.leaves → index / 256 < self.leaves }
@@ -63,7 +62,7 @@ fn push(to: &mut Vec<BootLine>, line: BootLine) -> Result<(), AllocError>
     Ok(())
 }
 
-/// Adds a line so many times.
+/// Appends a line `times` times.
 fn add_times(to: &mut Vec<BootLine>, line: &BootLine, times: u32) -> Result<(), AllocError>
     ensures { OnOk result (to.new.items ≡ to.old.items ++ replicate times line.now) }
 {
@@ -73,7 +72,7 @@ fn add_times(to: &mut Vec<BootLine>, line: &BootLine, times: u32) -> Result<(), 
     Ok(())
 }
 
-/// Adds the line that puts a further CNode of a space into its root.
+/// Appends the line that puts a capability to a further CNode of a space into its root.
 fn add_link(to: &mut Vec<BootLine>, site: Site, leaf: u32) -> Result<(), AllocError>
     requires within { IsWithin site }
     requires leaf { leaf < site.leaves }
@@ -91,7 +90,7 @@ fn add_link(to: &mut Vec<BootLine>, site: Site, leaf: u32) -> Result<(), AllocEr
     Ok(())
 }
 
-/// Adds the slots of a root that hold capabilities to the further CNodes of its space.
+/// Appends the slots of a root that hold capabilities to the further CNodes of its space.
 fn add_links(to: &mut Vec<BootLine>, site: Site) -> Result<(), AllocError>
     requires { IsWithin site }
     ensures { OnOk result (to.new.items ≡ to.old.items ++ each site.leaves (link_lines site)) }
@@ -103,8 +102,8 @@ fn add_links(to: &mut Vec<BootLine>, site: Site) -> Result<(), AllocError>
 }
 
 impl Laid {
-    /// A capability of a slot: one to a CNode has the guard that takes the bits which its own slots
-    /// leave.
+    /// Returns the capability of a slot; one to a CNode gets the guard that takes the bits which
+    /// its slots do not use.
     pub fn guarded(&self, space: usize, cap: &Cap) -> Cap
         ensures { result ≡ guarded self.now.layouts.items space cap.now }
     {
@@ -135,7 +134,7 @@ impl Laid {
         Ok(())
     }
 
-    /// Adds the lines that make the objects of a kind, all the same.
+    /// Appends the lines that make the objects of a kind.
     fn make_objects(
         &self,
         to: &mut Vec<BootLine>,
@@ -196,7 +195,7 @@ impl Laid {
         Ok(())
     }
 
-    /// Adds the line that fills a slot, where it holds something.
+    /// Adds the line that fills a slot, if it holds something.
     fn add_slot(
         &self,
         to: &mut Vec<BootLine>,
@@ -248,7 +247,8 @@ impl Laid {
     /// Adds the lines that fill all spaces.
     fn fill_all(&self, to: &mut Vec<BootLine>) -> Result<(), AllocError>
         requires { HasFewCNodes self.now.plan }
-        ensures { OnOk result (to.new.items ≡ to.old.items ++ each (length self.now.plan.spaces.items)
+        ensures { OnOk result (to.new.items ≡ to.old.items
+            ++ each (length self.now.plan.spaces.items)
             (λ p. filling self.now.layouts.items self.now.plan.spaces.items p
             (slice_get self.now.plan.spaces.items p))) }
     {
@@ -281,7 +281,8 @@ impl Laid {
         Ok(())
     }
 
-    /// Adds the lines of a boot that a machine may have, after that of its cores.
+    /// Appends the lines of the boot after that of its cores; the plan must fit the machine's
+    /// limits.
     fn add_lines(&self, to: &mut Vec<BootLine>) -> Result<(), AllocError>
         requires { Fits self.now.plan }
         ensures { OnOk result
@@ -298,7 +299,8 @@ impl Laid {
         self.bind_all(to)
     }
 
-    /// The lines of a boot that a machine may have, after that of its cores.
+    /// Returns the lines of the boot after that of its cores; the plan must fit the machine's
+    /// limits.
     fn lines(&self, alloc: Global) -> Result<Vec<BootLine>, AllocError>
         requires { Fits self.now.plan }
         ensures { IfOk result (λ ls. ls.items ≡ boot_of self.now.plan self.now.layouts.items) }
@@ -308,8 +310,8 @@ impl Laid {
         Ok(lines)
     }
 
-    /// The lines of the boot, after that of its cores. Limit where it makes more of a kind than a
-    /// machine may have.
+    /// Returns the lines of the boot after that of its cores. `Limit` if it makes more of a kind
+    /// than a machine may have.
     pub fn boot_lines(&self, alloc: Global) -> Result<Vec<BootLine>, Why>
         ensures made { IfOk result (λ ls. ls.items ≡ boot_of self.now.plan self.now.layouts.items) }
         ensures fits { OnOk result (boot_fits (said self.now.plan) ≡ Ok tt) }

@@ -1,4 +1,4 @@
-//! Whether a machine may have what a boot makes.
+//! Checks the boot against the limits of a machine.
 ghost use Rattle.std.specs.Prelude.{◌≡◌, ◌≤◌, true, Ok, Some, IfErr, OnOk};
 ghost use Rattle.mcs_types.specs.Limits.{cnode_limit};
 ghost use Rattle.mcs_types.specs.declared.id.Kind.TheVariants as kind;
@@ -10,7 +10,7 @@ ghost use Rattle.mcs_plan_layout.specs.Fitting.{cnodes_of, may_be, is_housed, ar
 use mcs_plan_source::{Plan, Thread, Why, limit_of, plural};
 use mcs_types::{CNODES, Kind};
 
-/// The fault of a plan that has more of a kind than a machine.
+/// Returns the fault of a plan with too many objects of a kind.
 fn too_many(kind: Kind) -> Why
     ensures { told_by result ≡ Some (limit (limit_of kind)) }
 {
@@ -20,7 +20,7 @@ fn too_many(kind: Kind) -> Why
     }
 }
 
-/// Fails with Limit if the plan has more than 64 CNodes.
+/// Fails with `Limit` if the plan has more than 64 CNodes.
 #[tactic(auto, using(crate::proofs::Limits::few_said))]
 fn has_few_cnodes(plan: &Plan) -> Result<(), Why>
     ensures few { OnOk result (HasFewCNodes plan.now) }
@@ -34,7 +34,7 @@ fn has_few_cnodes(plan: &Plan) -> Result<(), Why>
     Err(too_many(Kind::CNode))
 }
 
-/// Fails with Limit if it has more objects of a kind than there may be.
+/// Fails with `Limit` if a plan has more objects of a kind than a machine may have.
 fn has_few(plan: &Plan, kind: Kind) -> Result<(), Why>
     ensures few { OnOk result (count_of kind plan.now.names ≤ limit_of kind) }
     ensures ok { OnOk result (may_be kind (count_of kind plan.now.names) ≡ Ok tt) }
@@ -46,14 +46,14 @@ fn has_few(plan: &Plan, kind: Kind) -> Result<(), Why>
     Err(too_many(kind))
 }
 
-/// Whether a thread is in a space that there may be.
+/// Returns whether the space of a thread is among the 64 that there may be.
 fn is_housed(thread: &Thread) -> bool
     ensures { result ≡ is_housed thread.now }
 {
     thread.space < CNODES as usize
 }
 
-/// Whether each thread is.
+/// Returns whether the space of each thread is among the 64 that there may be.
 fn are_housed(threads: &[Thread]) -> bool
     ensures { result ≡ are_housed threads.now }
 {
@@ -65,7 +65,7 @@ fn are_housed(threads: &[Thread]) -> bool
     true
 }
 
-/// Fails with Limit if the space of a thread is beyond the 64 that there may be.
+/// Fails with `Limit` if the space of a thread is beyond the 64 that there may be.
 fn has_housed(plan: &Plan) -> Result<(), Why>
     ensures housed { OnOk result (are_housed plan.now.threads.items ≡ true) }
     ensures ok { OnOk result
@@ -79,7 +79,7 @@ fn has_housed(plan: &Plan) -> Result<(), Why>
     Err(too_many(Kind::CNode))
 }
 
-/// Fails with Limit if the boot of a plan makes more of a kind than a machine may have.
+/// Fails with `Limit` if the boot of a plan makes more of a kind than a machine may have.
 pub fn fits(plan: &Plan) -> Result<(), Why>
     ensures fits { OnOk result (Fits plan.now) }
     ensures ok { OnOk result (boot_fits (said plan.now) ≡ Ok tt) }

@@ -18,7 +18,7 @@ use mcs_plan_source::{Plan, PlanFault, Space, Why, not};
 use mcs_types::{Cap, CoreId, Kind, ObjId};
 use std::alloc::{AllocError, Global};
 
-/// A plan whose spaces are laid out, with the names of each thread.
+/// A plan with its spaces laid out, and the table of names of each thread.
 #[derive(Drop)]
 pub struct Laid {
     pub plan: Plan,
@@ -26,7 +26,8 @@ pub struct Laid {
     pub tables: Vec<Vec<Named>>,
 }
 
-/// Returns the number of the line that makes the first passive thread; None where none is passive.
+/// Returns the number of the line that declares the first passive thread; None if no thread is
+/// passive.
 fn first_passive(plan: &Plan) -> Option<u64>
     ensures { result ≡ first_line (said plan.now).passives }
 {
@@ -36,7 +37,7 @@ fn first_passive(plan: &Plan) -> Option<u64>
     }
 }
 
-/// A plan with the thread that makes others passive, where one is.
+/// Returns a plan with the thread `starter`, if it has passive threads.
 fn started(alloc: Global, plan: Plan) -> Result<Plan, PlanFault>
     ensures started { IfOk result (λ new. IsStarted (said plan) (said new)) }
     ensures told { IfErr result (RefusesStarter (said plan)) }
@@ -51,7 +52,7 @@ fn started(alloc: Global, plan: Plan) -> Result<Plan, PlanFault>
     }
 }
 
-/// The last core of contexts.
+/// Returns the greatest core of contexts.
 fn last_core(contexts: &[CoreId]) -> u8
     ensures { result ≡ fold (λ last core. max core.0 last) 0 contexts.now }
 {
@@ -62,14 +63,14 @@ fn last_core(contexts: &[CoreId]) -> u8
     last
 }
 
-/// Whether a row is this word.
+/// Returns whether a row has this name.
 fn is_row(named: &Named, word: &str) -> bool
     ensures { result ≡ is_row word.now named.now }
 {
     named.name.as_str() == word
 }
 
-/// The first row of a table which is this word.
+/// Returns the first row of a table with this name.
 fn first_row<'a>(table: &'a [Named], word: &str) -> Option<&'a Named>
     ensures { option_copied result ≡ find (is_row word.now) table.now }
 {
@@ -81,7 +82,8 @@ fn first_row<'a>(table: &'a [Named], word: &str) -> Option<&'a Named>
     None
 }
 
-/// The parts of a word: the name of a slot, and of one of the CNode that it holds a capability to.
+/// Returns the parts of a word: the name of a slot, and of a slot in the CNode to which the first
+/// holds a capability.
 #[tactic(auto, using(crate::proofs::Rows::no_rest, crate::proofs::Rows::one_rest))]
 fn parts_of<'a>(word: &'a str) -> (&'a str, Option<&'a str>)
     ensures outer { result.0.now ≡ outer_in word.now }
@@ -103,7 +105,7 @@ fn cap_in(space: &Space, name: &str) -> Option<Cap>
     }
 }
 
-/// The fault of a name that no slot of a space has.
+/// Returns the fault of a name that no slot of a space has.
 fn no_slot(alloc: Global, space: &Space, holder: &str, name: &str) -> Result<Why, AllocError>
     ensures { IfOk result (Tells (no_capability holder.now name.now)) }
 {
@@ -115,7 +117,7 @@ fn no_slot(alloc: Global, space: &Space, holder: &str, name: &str) -> Result<Why
 }
 
 impl Laid {
-    /// The layouts and the names of a plan that has the thread which it needs.
+    /// Returns a plan, with `starter` if it needs it, with layouts and tables.
     fn with_layouts(alloc: Global, plan: Plan) -> Result<Laid, AllocError>
         ensures plan { IfOk result (λ laid. laid.plan ≡ plan) }
         ensures laid { IfOk result IsLaid }
@@ -130,7 +132,7 @@ impl Laid {
         Ok(laid)
     }
 
-    /// Lays the spaces of a plan out. Twice at the line of the first passive thread where `starter`
+    /// Lays out the spaces of a plan. `Twice` at the line of the first passive thread if `starter`
     /// is a name already.
     pub fn new(alloc: Global, plan: Plan) -> Result<Laid, PlanFault>
         ensures plan { IfOk result (λ laid. IsStarted (said plan) (said laid.plan)) }
@@ -147,7 +149,7 @@ impl Laid {
         }
     }
 
-    /// The layout of a space; that of a CNode of two slots where there is none.
+    /// Returns the layout of a space; that of a CNode of two slots if the space does not exist.
     pub fn layout(&self, space: usize) -> Layout
         ensures { result ≡ unwrap_or (slice_get self.now.layouts.items space)
             (record { root = 1; leaf = 0; within = 0 }) }
@@ -158,7 +160,7 @@ impl Laid {
         }
     }
 
-    /// The number of cores: what the plan says, or one more than the last that it names.
+    /// Returns the number of cores: the plan's, or one more than the greatest core that it names.
     pub fn cores(&self) -> u8
         ensures { result ≡ cores_of self.now.plan.cores self.now.plan.contexts.items }
     {
@@ -168,7 +170,8 @@ impl Laid {
         }
     }
 
-    /// What a thread names by a word: `NAME`, or `NAME/NAME` for a slot of a CNode that it has.
+    /// Returns the row of a thread for a word: `NAME`, or `NAME/NAME` for a slot of a CNode to
+    /// which it has a capability.
     pub fn find(&self, thread: ObjId, word: &str) -> Option<&Named>
         ensures { option_copied result ≡ named_by self.now.tables.items thread word.now }
     {
@@ -176,7 +179,7 @@ impl Laid {
         first_row(table, word)
     }
 
-    /// What a thread names by a word. NoCapability or Not where it has none of that name.
+    /// Returns the row of a thread for a word. `NoCapability` or `Not` if it has none.
     pub fn named(&self, alloc: Global, thread: ObjId, word: &str) -> Result<&Named, Why>
         ensures found { IfOk result
             (λ n. named_by self.now.tables.items thread word.now ≡ Some n.now) }
@@ -190,7 +193,7 @@ impl Laid {
         }
     }
 
-    /// The fault of a word that names nothing.
+    /// Returns the fault of a word that names nothing.
     fn unnamed(&self, alloc: Global, thread: ObjId, word: &str) -> Result<Why, AllocError>
         ensures { IfOk result (Tells (unnamed (said self.now.plan) thread word.now)) }
     {
@@ -208,7 +211,8 @@ impl Laid {
         }
     }
 
-    /// The fault of a name that no slot has in the CNode which an outer slot holds a capability to.
+    /// Returns the fault of a name that no slot has in the CNode to which an outer slot holds a
+    /// capability.
     fn no_inner(
         &self,
         alloc: Global,

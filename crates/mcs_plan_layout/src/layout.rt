@@ -5,7 +5,7 @@ ghost use Rattle.mcs_plan_layout.specs.Holding.{IsAddressOf};
 
 use mcs_types::{Guard, Place};
 
-/// How many bits of an index a CNode of a larger space takes.
+/// How many bits of an index a further CNode of a larger space takes.
 pub const LEAF: u8 = 8;
 
 /// The bits of a space's addresses, after its guard.
@@ -13,14 +13,14 @@ pub const LEAF: u8 = 8;
 pub struct Layout {
     /// The radix of the root CNode, 1 to 8.
     pub root: u8,
-    /// The radix of the CNodes in the root: 8, or 0 where the slots are in the root itself.
+    /// The radix of the CNodes in the root: 8, or 0 if the slots are in the root itself.
     pub leaf: u8,
-    /// How many bits name a slot of a CNode that a slot of the space holds a capability to, 0 to
+    /// How many bits name a slot of a CNode to which a slot of the space holds a capability, 0 to
     /// 16.
     pub within: u8,
 }
 
-/// How many bits name one of so many things, at least one: a table of powers of 2.
+/// Returns how many bits name one of this many things, at least one: a table of powers of 2.
 fn bits_for(count: u32) -> u8
     ensures value { result ≡ bits_for count }
     ensures some { 1 ≤ result }
@@ -40,8 +40,8 @@ fn bits_for(count: u32) -> u8
 }
 
 impl Layout {
-    /// The layout of a space with so many slots, up to 65,536: one CNode for up to 256. No slot of
-    /// it leads further.
+    /// Returns the layout of a space with this many slots, up to 65,536: one CNode for up to 256.
+    /// None of its slots leads to another space.
     #[tactic(auto, using(crate::proofs::Walks::larger_enough))]
     pub fn of_slots(slots: u32) -> Layout
         ensures value { result ≡ layout_of_slots slots }
@@ -74,7 +74,7 @@ impl Layout {
         }
     }
 
-    /// Whether a space is laid out so, and has a slot of this index.
+    /// Returns whether a space with this layout has a slot at this index.
     #[tactic(auto, using(crate::proofs::Walks::few_slots))]
     pub fn has(&self, index: usize) -> bool
         ensures value { result ≡ has_slot self.now index }
@@ -88,7 +88,7 @@ impl Layout {
         index < 1usize << (self.root + self.leaf)
     }
 
-    /// How many bits name a slot.
+    /// Returns how many bits name a slot.
     pub fn bits(&self) -> u8
         requires { IsLaidOut self.now }
         ensures { result ≡ self.now.root + self.now.leaf }
@@ -96,7 +96,7 @@ impl Layout {
         self.root + self.leaf
     }
 
-    /// The guard of its root: it takes all bits in front of the index, and is 0.
+    /// Returns the guard of its root: zeros in all bits before the index.
     pub fn guard(&self) -> Guard
         requires { IsLaidOut self.now }
         ensures { result ≡ zero_guard (64 - bits_behind self.now) }
@@ -107,8 +107,8 @@ impl Layout {
         }
     }
 
-    /// The guard of a capability, in one of its slots, to the root of another space: it takes the
-    /// bits that the other's slots leave of `within`.
+    /// Returns the guard for a capability, in one of its slots, to the root of another space: it
+    /// takes the bits of `within` that the other's slots do not use.
     pub fn guard_within(&self, other: &Layout) -> Guard
         requires here { IsLaidOut self.now }
         requires there { IsLaidOut other.now }
@@ -121,7 +121,7 @@ impl Layout {
         }
     }
 
-    /// The index of a slot, in front of the bits within.
+    /// Returns the index of a slot, shifted left by the bits within.
     fn scaled(&self, slot: u32) -> u64
         requires laid_out { IsLaidOut self.now }
         requires within { slot < 2 ^ (self.now.root + self.now.leaf) }
@@ -130,8 +130,8 @@ impl Layout {
         (slot as u64) << self.within
     }
 
-    /// The address of a slot: what is there is what it names, in every space that is laid out so
-    /// (manual: Capability Spaces).
+    /// Returns the address of a slot, which names what the slot holds in every space with this
+    /// layout (manual: Capability Spaces).
     pub fn address(&self, slot: u32) -> u64
         requires laid_out { IsLaidOut self.now }
         requires within { slot < 2 ^ (self.now.root + self.now.leaf) }
@@ -141,7 +141,7 @@ impl Layout {
         self.scaled(slot)
     }
 
-    /// The place of a slot: its index, and the bits of an address as far as that.
+    /// Returns the place of a slot: its index, and the bits of an address up to the index.
     pub fn place(&self, slot: u32) -> Place
         requires { IsLaidOut self.now }
         ensures { result ≡ record { index = slot; depth = 64 - self.now.within } }
@@ -152,8 +152,8 @@ impl Layout {
         }
     }
 
-    /// The address of a slot in a CNode that one of its slots holds a capability to. Its place has
-    /// a depth of 64.
+    /// Returns the address of a slot in a CNode to which one of its slots holds a capability. As a
+    /// place it has depth 64.
     pub fn address_within(&self, slot: u32, inner: u32) -> u64
         requires laid_out { IsLaidOut self.now }
         requires within { slot < 2 ^ (self.now.root + self.now.leaf) }

@@ -9,8 +9,8 @@ use mcs_plan_source::Space;
 use mcs_types::Cap;
 use std::alloc::{AllocError, Global};
 
-/// Returns the layout of a space by its radix, or else by the number of its slots, with no bits
-/// left after an index.
+/// Returns the layout of a space by its radix, or else by the number of its slots, without bits
+/// after the index.
 fn own_layout(space: &Space) -> Layout
     ensures value { result ≡ own_layout (said_space space.now) }
     ensures few { result.root + result.leaf ≤ 255 }
@@ -21,7 +21,7 @@ fn own_layout(space: &Space) -> Layout
     }
 }
 
-/// How many bits name one of its slots.
+/// Returns how many bits name one of its slots.
 fn own_bits(space: &Space) -> u8
     ensures { result ≡ own_bits (said_space space.now) }
 {
@@ -29,7 +29,8 @@ fn own_bits(space: &Space) -> u8
     layout.root + layout.leaf
 }
 
-/// How many bits name a slot of the CNode that a slot holds a capability to.
+/// Returns how many bits name a slot of the CNode to which a slot holds a capability; 0 if it holds
+/// none.
 fn bits_held(spaces: &[Space], cap: Option<Cap>) -> u8
     ensures { result ≡ bits_held (map said_space spaces.now) cap }
 {
@@ -42,7 +43,7 @@ fn bits_held(spaces: &[Space], cap: Option<Cap>) -> u8
     }
 }
 
-/// How many bits the slot at an index, from 0, needs so.
+/// Returns how many bits the slot at an index, from 0, needs after its own.
 fn bits_at(spaces: &[Space], space: &Space, index: usize) -> u8
     ensures { result ≡ bits_at (map said_space spaces.now)
         (slice_get (said_space space.now).slots index) }
@@ -53,7 +54,7 @@ fn bits_at(spaces: &[Space], space: &Space, index: usize) -> u8
     }
 }
 
-/// How many bits the slots of the CNodes need that a space holds capabilities to.
+/// Returns how many bits the slots of all CNodes need to which a space holds capabilities.
 #[tactic(auto, using(crate::proofs::Most::most_more))]
 fn bits_within(spaces: &[Space], space: &Space) -> u8
     ensures { result ≡ bits_within (map said_space spaces.now) (said_space space.now) }
@@ -65,7 +66,7 @@ fn bits_within(spaces: &[Space], space: &Space) -> u8
     most
 }
 
-/// The layout of a space among all.
+/// Returns the layout of one space among all.
 fn layout_among(spaces: &[Space], space: &Space) -> Layout
     ensures { result ≡ layout_among (map said_space spaces.now) (said_space space.now) }
 {

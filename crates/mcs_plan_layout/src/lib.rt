@@ -1,5 +1,5 @@
-//! From what a plan says to a layout for each space (its guard and the address of each slot), the
-//! lines of the boot, and what each thread can name.
+//! Lays out the spaces of a plan: the guard of each, the address of each slot, the lines of the
+//! boot, and the table of names of each thread.
 //!
 //! ```text
 //! Plan ── starter ──> Plan with the thread that makes others passive
@@ -14,9 +14,8 @@
 //! | guard, all 0 | index of the slot: `root` bits, `leaf` bits | `within` |
 //! ```
 //!
-//! A space of up to 256 slots is one CNode; a larger one has a CNode of CNodes (`leaf`). The last
-//! `within` bits are there where the space holds capabilities to CNodes: they name the slots in
-//! these.
+//! A space of up to 256 slots is one CNode; a larger one has a CNode of CNodes (`leaf`). If the
+//! space holds capabilities to other CNodes, the last `within` bits name the slots in these.
 #![tactic(auto)]
 
 mod boot;

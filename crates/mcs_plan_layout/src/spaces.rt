@@ -1,4 +1,4 @@
-//! The spaces of a plan, as it says them.
+//! The spaces of a plan.
 ghost use Rattle.std.specs.Prelude.{◌≡◌, ◌<◌, ◌^◌, length, map, slice_get, is_some, option_map, option_and_then};
 ghost use Rattle.mcs_plan_source.specs.Naming.{find};
 ghost use Rattle.mcs_plan_source.specs.Saying.{said_space};
@@ -7,7 +7,7 @@ ghost use Rattle.mcs_plan_layout.specs.Layouts.{space_behind};
 use mcs_plan_source::{Slot, Space};
 use mcs_types::{Kind, ObjId};
 
-/// How many slots a space has, beside slot 0.
+/// Returns how many slots a space has, beside slot 0.
 #[tactic(auto, using(crate::proofs::SaidSpaces::counted))]
 pub fn slot_count(space: &Space) -> usize
     ensures value { result ≡ length (said_space space.now).slots }
@@ -26,7 +26,7 @@ pub fn slot_at(space: &Space, index: usize) -> Option<(&str, &Slot)>
     Some((name.as_str(), slot))
 }
 
-/// Whether it has a slot of this name.
+/// Returns whether it has a slot of this name.
 #[tactic(auto, using(crate::proofs::SaidSpaces::named_same))]
 pub fn has_slot(space: &Space, name: &str) -> bool
     ensures { result ≡ is_some (find (said_space space.now).slots name.now) }
@@ -43,7 +43,7 @@ pub fn space_at(spaces: &[Space], place: usize) -> Option<&Space>
     spaces.get(place)
 }
 
-/// The space whose root is a CNode.
+/// Returns the space whose root is a CNode.
 pub fn space_behind(spaces: &[Space], cnode: ObjId) -> Option<&Space>
     ensures { option_map (λ s. said_space s.now) result
         ≡ space_behind (map said_space spaces.now) cnode }

@@ -1,4 +1,4 @@
-//! The thread that makes others passive.
+//! `starter`, the thread that makes others passive.
 ghost use Rattle.std.specs.Prelude.{◌≡◌, Some, None, Ok, IfOk, IfErr, OnOk};
 ghost use Rattle.mcs_plan_source.specs.declared.fault.Why.TheVariants as why;
 ghost use Rattle.mcs_plan_source.specs.Naming.{next_of};
@@ -19,7 +19,7 @@ const CONTEXT: &str = "starter.context";
 /// The name of its space.
 const SPACE: &str = "starter.space";
 
-/// A capability without rights.
+/// Returns a capability without rights.
 pub fn bare(obj: ObjId, guard: Guard) -> Option<Cap>
     ensures { result ≡ Some (bare obj guard) }
 {
@@ -45,7 +45,7 @@ fn add_slot(alloc: Global, space: &mut Space, obj: ObjId, name: &str) -> Result<
     Ok(())
 }
 
-/// Adds the slot of the context of a thread, where it has one.
+/// Adds the slot for the context of a thread, if it has one.
 fn add_context(
     alloc: Global,
     space: &mut Space,
@@ -61,7 +61,7 @@ fn add_context(
     }
 }
 
-/// Its space: the contexts of all passive threads, and itself.
+/// Returns the space of `starter`: the contexts of all passive threads, and itself.
 #[tactic(auto, using(crate::proofs::Started::context_more, crate::proofs::Started::no_slots))]
 fn space_of(alloc: Global, plan: &Plan, starter: ObjId) -> Result<Space, Why>
     ensures space { IfOk result (λ s. said_space s ≡ space_started (said plan.now) starter) }
@@ -85,7 +85,7 @@ fn add_name(alloc: Global, names: &mut Names, kind: Kind, name: &str) -> Result<
     names.add(alloc, kind, name)
 }
 
-/// Gives it its names, and returns it and its context. Twice where one of them is there already.
+/// Names the starter and its context, and returns both. `Twice` if one of the names exists already.
 fn add_names(alloc: Global, names: &mut Names) -> Result<(ObjId, ObjId), Why>
     ensures added { OnOk result (names_started names.old ≡ Ok names.new) }
     ensures thread { IfOk result (λ o. o.0 ≡ next_of kind.Thread names.old) }
@@ -98,7 +98,7 @@ fn add_names(alloc: Global, names: &mut Names) -> Result<(ObjId, ObjId), Why>
     Ok((thread, context))
 }
 
-/// Puts it after the other threads, with its context and its space.
+/// Adds the starter after the other threads, with its context and its space.
 fn put(plan: &mut Plan, space: Space, context: ObjId) -> Result<(), AllocError>
     ensures { OnOk result (said plan.new ≡ with_thread (starter_with context (said plan.old))
         (with_parts (said_space space) (said plan.old))) }
@@ -117,7 +117,7 @@ fn put(plan: &mut Plan, space: Space, context: ObjId) -> Result<(), AllocError>
     Ok(())
 }
 
-/// Adds it. Twice where one of its names is there already.
+/// Adds the starter. `Twice` if one of its names exists already.
 pub fn add_starter(alloc: Global, plan: &mut Plan) -> Result<(), Why>
     ensures added { OnOk result (AddsStarter (said plan.old) (said plan.new)) }
     ensures told { IfErr result (Refuses (names_started plan.old.names)) }

@@ -1,4 +1,4 @@
-//! What each thread can name.
+//! The table of names of each thread.
 ghost use Rattle.std.specs.Prelude.{◌≡◌, ◌<◌, ◌+◌, ◌++◌, ◌∷◌, ◌^◌, [], IfOk, OnOk, map, slice_get, string_bytes};
 ghost use Rattle.mcs_plan_source.specs.Saying.{said, said_space};
 ghost use Rattle.mcs_plan_layout.specs.SpaceLayouts.{IsLaidOut};
@@ -12,21 +12,22 @@ use mcs_plan_source::{Slot, Space};
 use mcs_types::{Cap, Kind, Place};
 use std::alloc::{AllocError, Global};
 
-/// A name of a thread, with what its slot holds when the boot has ended, and how the plan wrote it.
+/// A name in a thread's table, what its slot holds after the boot, and how the plan wrote it.
 #[derive(Drop)]
 pub struct Named {
     pub name: String,
     pub written: String,
     /// The capability; None for an empty slot.
     pub cap: Option<Cap>,
-    /// The address by which an entry names what the slot holds; None where that is a capability to
-    /// a CNode, since lookup goes on through it.
+    /// The address by which an entry names what the slot holds; None for a capability to a CNode,
+    /// since lookup continues through it.
     pub address: Option<u64>,
     /// The place of the slot.
     pub place: Place,
 }
 
-/// A space that is held under another name: that name, the address of its slot 0, and its place.
+/// An inner space: the name of the slot that holds a capability to it, the address of its slot 0,
+/// and its index among the spaces.
 #[derive(Clone, Copy)]
 struct Held<'a> {
     outer: &'a str,
@@ -34,7 +35,7 @@ struct Held<'a> {
     space: usize,
 }
 
-/// A name in a space that is held under another name.
+/// Returns a name in such an inner space: `OUTER/INNER`.
 fn path_of(alloc: Global, outer: &str, inner: &str) -> Result<String, AllocError>
     ensures { IfOk result (λ path. string_bytes path ≡ path_of outer.now inner.now) }
 {
@@ -55,8 +56,8 @@ fn address_in(layout: &Layout, index: u32) -> u64
     layout.address(index)
 }
 
-/// Returns the address by which an entry names what a slot holds: None where that is a capability
-/// to a CNode, since lookup goes on through it.
+/// Returns the address by which an entry names what a slot holds; None for a capability to a CNode,
+/// since lookup continues through it.
 fn naming_address(cap: Option<Cap>, address: u64) -> Option<u64>
     ensures { result ≡ naming_address cap address }
 {
@@ -76,8 +77,8 @@ fn push(to: &mut Vec<Named>, named: Named) -> Result<(), AllocError>
 }
 
 impl Laid {
-    /// Returns the capability that a slot of a space holds when the boot has ended, with its guard
-    /// where it is to a CNode; None for an empty slot.
+    /// Returns the capability that a slot of a space holds after the boot, with its guard if it is
+    /// to a CNode; None for an empty slot.
     fn held(&self, space: usize, slot: &Slot) -> Option<Cap>
         ensures { result ≡ held_then self.now.layouts.items space slot.now.cap }
     {
@@ -87,7 +88,7 @@ impl Laid {
         }
     }
 
-    /// The row of a slot at this address, in a space that is held under another name.
+    /// Returns the row of a slot at this address of an inner space.
     fn inner_row(
         &self,
         alloc: Global,
@@ -111,7 +112,7 @@ impl Laid {
         })
     }
 
-    /// Adds the row of the slot at an index, from 0, of a space that is held under another name.
+    /// Adds the row of the slot at an index, from 0, of an inner space.
     fn add_inner_slot(
         &self,
         alloc: Global,
@@ -134,7 +135,7 @@ impl Laid {
         push(to, named)
     }
 
-    /// Adds the rows of a space that is held under another name.
+    /// Adds the rows of an inner space.
     fn add_inner(
         &self,
         alloc: Global,
@@ -155,7 +156,7 @@ impl Laid {
         Ok(())
     }
 
-    /// Adds the rows below a slot: those of the CNode that it holds a capability to.
+    /// Adds the rows below a slot: those of the CNode to which it holds a capability.
     fn add_behind(
         &self,
         alloc: Global,
@@ -185,7 +186,7 @@ impl Laid {
         }
     }
 
-    /// Adds the row of the slot at an index, from 0, of the space at a place, and those below it.
+    /// Adds the row of the slot at an index, from 0, of the space at an index, and those below it.
     #[tactic(auto, using(crate::proofs::MoreRows::behind_one))]
     fn add_own(
         &self,
@@ -220,7 +221,7 @@ impl Laid {
         self.add_behind(alloc, to, name, address, slot.cap)
     }
 
-    /// The names of a thread with this space.
+    /// Returns the table of names of a thread with this space.
     fn table(&self, alloc: Global, place: usize) -> Result<Vec<Named>, AllocError>
         ensures { IfOk result (λ table. rows_of table.items
             ≡ table_of self.now.layouts.items (said self.now.plan).spaces place) }
@@ -235,7 +236,7 @@ impl Laid {
         Ok(table)
     }
 
-    /// The names of each thread.
+    /// Returns the table of names of each thread.
     pub fn tables_of(&self, alloc: Global) -> Result<Vec<Vec<Named>>, AllocError>
         ensures { IfOk result (λ tables. table_rows tables.items
             ≡ tables_by self.now.layouts.items (said self.now.plan)) }

@@ -272,7 +272,7 @@ begun_of line first words s =
     (chosen (bytes_eq first (codes "thread")) _ _ (thread_line_of line words s)
     (chosen (bytes_eq first (codes "tie")) _ _ (tie_of words s) refl)))))))
 
--- a fault that is told
+-- a fault that is reported
 told_of : {A : Type 0} (r : Read A) (w : Why) → OfLine r → Refuses r w → TellsOfLine w
 told_of {A} r w h refuses = λ e p. subst (λ (x : Read A). OfLine x) (refuses e p) h
 

@@ -195,7 +195,7 @@ objects_line_in_order : (kind : Kind) (names : List (List ℕ)) (s : Said) → s
 objects_line_in_order kind [] s t c n order = tt
 objects_line_in_order kind (name ∷ names) s t c n order = objects_in_order kind (name ∷ names) s t c n order
 
--- a slot, where the CNodes are looked at behind it
+-- a slot, where the CNodes are looked at after it
 record IsAhead (s : Said) : Type 0 where
   tidy : IsTidy s
   threads : made_of s kinds.Thread ≤ limit_of kinds.Thread

@@ -68,7 +68,7 @@ same_length place f [] = refl
 same_length zero f (s ∷ ss) = refl
 same_length (suc place) f (s ∷ ss) = ap suc (same_length place f ss)
 
--- so many threads are named, and not there yet
+-- this many threads are named, and not there yet
 record IsBehind (n : ℕ) (s : Said) : Type 0 where
   counted : AreCounted s.names
   contexts : length s.contexts ≡ count_of kinds.Context s.names

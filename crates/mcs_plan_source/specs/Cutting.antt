@@ -15,7 +15,7 @@ abbrev pub words_of : List ℕ → List (List ℕ)
 words_of line = filter is_some_text (slice_split is_white line)
 
 -- how many bytes are before the `#` of a comment, which is where one may begin or after white
--- space; all where there is none
+-- space; all if there is none
 abbrev pub code_len : Bool → List ℕ → ℕ
 code_len begins [] = 0
 code_len begins (b ∷ bs) = cond (begins && b == 35) 0 (1 + code_len (is_white b) bs)

@@ -65,7 +65,7 @@ limit_of Context = object_limit
 abbrev pub find : {X : Type 0} → ByName X → List ℕ → Option X
 find names word = lookup (bytes_eq word) names
 
--- the first name of an object; none at all where it has none
+-- the first name of an object; empty if it has none
 abbrev pub name_of : NameList → ObjId → List ℕ
 name_of [] object = []
 name_of (n ∷ names) object = cond (same n.1 object) n.0 (name_of names object)

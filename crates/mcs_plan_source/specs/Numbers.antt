@@ -37,7 +37,7 @@ abbrev pub ReadsNumber : ℕ → List (List ℕ) → ℕ → List (List ℕ) →
 ReadsNumber limit [] n left = ⊥
 ReadsNumber limit (word ∷ words) n left = (left ≡ words) × (number_within limit word ≡ Some n)
 
--- why no number is read: no word is there, or the first, which is told, spells none within the
+-- why no number is read: no word is there, or the first, which is reported, spells none within the
 -- limit
 abbrev pub TellsNoNumber : ℕ → List (List ℕ) → Why → Type 0
 TellsNoNumber limit [] (why.Missing wanted) = Unit {0}

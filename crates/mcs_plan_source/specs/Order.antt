@@ -41,7 +41,7 @@ pub record IsInOrder (s : Said) : Type 0 where
 abbrev pub AreCounted : NameList → Type 0
 AreCounted names = (word : List ℕ) (o : ObjId) → find names word ≡ Some o → (1 ≤ o.serial) × (o.serial ≤ count_of o.kind names)
 
--- each thread is in one of so many spaces
+-- each thread is in one of this many spaces
 abbrev pub AreHoused : ℕ → List Thread → Type 0
 AreHoused spaces [] = Unit {0}
 AreHoused spaces (thread ∷ threads) = (thread.space < spaces) × AreHoused spaces threads

@@ -72,7 +72,7 @@ is_of_line (boot fault) = false
 abbrev pub Read : Type 0 → Type 0
 Read X = Result X Refusal
 
--- a reading, and then one that goes on with what it gave
+-- a reading, and then one that continues with what it gave
 infixl 10 ◌>>=◌
 abbrev pub ◌>>=◌ : {A B : Type 0} → Read A → (A → Read B) → Read B
 (Ok x) >>= f = f x
@@ -89,10 +89,10 @@ abbrev pub need : Bool → Refusal → Read (Unit {0})
 need true e = Ok tt
 need false e = Err e
 
--- a fault that is told is the one that the reading ends in
+-- a fault that is reported is the one that the reading ends in
 abbrev pub Refuses : {X : Type 0} → Read X → Why → Type 0
 Refuses read w = ForSome (told_by w) (λ e. read ≡ Err e)
 
--- a fault that is told is one of lines before the first step
+-- a fault that is reported is one of lines before the first step
 abbrev pub TellsOfLine : Why → Type 0
 TellsOfLine w = ForSome (told_by w) (λ e. is_of_line e ≡ true)

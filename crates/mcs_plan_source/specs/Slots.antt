@@ -19,7 +19,7 @@ pub record MayHave (space : Space) (name : List ℕ) : Type 0 where
   pub fresh : find (slots_of space) name ≡ None
   pub room : length (slots_of space) < most_slots space.radix
 
--- it has it now, after the others
+-- a space has a slot more of this name, after the others
 pub record AddsSlot (old : Space) (name : List ℕ) (slot : Slot) (new : Space) : Type 0 where
   pub may : MayHave old name
   pub slots : slots_of new ≡ slots_of old ++ (name, slot) ∷ []
@@ -33,8 +33,8 @@ slot_count space = min (length (slots_of space)) 65535 + 1
 abbrev pub cap_at : Space → ℕ → Option Cap
 cap_at space index = cond (index == 0) None (option_and_then (λ s. s.1.cap) (slice_get (slots_of space) (index - 1)))
 
--- how many CNodes a space of so many slots takes beside its root: none where its radix is said, or
--- the root has all slots
+-- how many CNodes a space of this many slots takes beside its root: none where its radix is said,
+-- or the root has all slots
 abbrev pub leaves_for : Option ℕ → ℕ → ℕ
 leaves_for (Some radix) slots = 0
 leaves_for None slots = cond (nat_le slots 256) 0 ((slots - 1) / 256 + 1)

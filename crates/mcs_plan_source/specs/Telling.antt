@@ -56,7 +56,7 @@ TellsMissing words (why.Missing wanted) = words ≡ []
 TellsMissing words _ = ⊥
 
 -- the fault of a line whose next word is not the one that is wanted: it ends, or has another, which
--- is told
+-- is reported
 abbrev pub TellsOther : List ℕ → List (List ℕ) → Why → Type 0
 TellsOther wanted [] (why.Missing missing) = Unit {0}
 TellsOther wanted (word ∷ words) (why.Not told missing) = (string_bytes told ≡ word) × (word ≢ wanted)

@@ -95,7 +95,7 @@ part_then cores part words form =
     else if bytes_eq part (codes "passive") then taking (λ r. record form { passive = Some r }) (receiving_then words)
     else Err (not_wanted part)
 
--- the next part, where there is one
+-- the next part, if there is one
 abbrev pub next_part : Option ℕ → List (List ℕ) → Form → Read (Form × List (List ℕ))
 next_part cores [] form = Ok (form, [])
 next_part cores (part ∷ words) form = part_then cores part words form

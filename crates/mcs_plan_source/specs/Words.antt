@@ -24,6 +24,6 @@ abbrev pub number_then : ℕ → List (List ℕ) → Read (ℕ × List (List ℕ
 number_then most [] = Err missing
 number_then most (word ∷ words) = ok_or (option_map (λ n. (n, words)) (number_within most word)) (not_wanted word)
 
--- the word that is told where a number is 0 and may not be
+-- the word that is reported where a number is 0 and may not be
 abbrev pub zero_word : List ℕ
 zero_word = codes "0"

@@ -8,14 +8,14 @@ use crate::{Names, Why, not, number};
 use mcs_types::{Badge, Cap, Guard, Kind, ObjId, Rights};
 use std::alloc::{AllocError, Global};
 
-/// Whether a capability to this kind carries rights and a badge.
+/// Returns whether a capability to this kind carries rights and a badge.
 fn is_badged(kind: Kind) -> bool
     ensures { result ≡ is_badged kind }
 {
     matches!(kind, Kind::Endpoint | Kind::Notification)
 }
 
-/// A text in front of the first such mark, and what follows it.
+/// Returns a text before the first occurrence of a mark, and what follows it.
 #[tactic(auto, using(crate::proofs::PlanWords::no_rest, crate::proofs::PlanWords::one_rest))]
 fn cut<'a>(text: &'a str, mark: char) -> (&'a str, Option<&'a str>)
     requires { mark < 128 }
@@ -39,7 +39,7 @@ pub fn parts_of<'a>(word: &'a str) -> (&'a str, Option<&'a str>, Option<&'a str>
     (name, rights, badge)
 }
 
-/// The rights that are said: all of them where none are.
+/// Returns the rights that are written: all if none are. None if they are no rights.
 fn rights_said(kind: Kind, rights: Option<&str>) -> Option<Rights>
     ensures { result ≡ rights_said kind (option_copied rights.entry) }
 {
@@ -49,7 +49,7 @@ fn rights_said(kind: Kind, rights: Option<&str>) -> Option<Rights>
     }
 }
 
-/// The badge that is said: 0 where none is.
+/// Returns the badge that is written: 0 if none is. None if it is no number.
 fn badge_said(badge: Option<&str>) -> Option<u64>
     ensures { result ≡ badge_said (option_copied badge.entry) }
 {
@@ -59,7 +59,7 @@ fn badge_said(badge: Option<&str>) -> Option<u64>
     }
 }
 
-/// Whether a word has only what a capability to this kind carries.
+/// Returns whether a word has only parts that a capability of this kind carries.
 fn may_say(kind: Kind, word: &str) -> bool
     ensures { result ≡ may_say kind word.now }
 {
@@ -85,7 +85,7 @@ fn cap_to(obj: ObjId, word: &str) -> Option<Cap>
     })
 }
 
-/// What a word is to be that spells no capability to this kind.
+/// Returns what a fault wants for a word that spells no capability of this kind.
 fn wanted_of(kind: Kind, word: &str) -> &'static str {
     let (_, rights, _) = parts_of(word);
     if !may_say(kind, word) {
@@ -97,9 +97,9 @@ fn wanted_of(kind: Kind, word: &str) -> &'static str {
     "a capability: its badge is a number of 64 bits"
 }
 
-/// The capability that a word spells: an object, and for an endpoint or a notification its rights
-/// (all of them where none are said) and its badge. NoName where there is no such object, Not where
-/// the rights or the badge are none.
+/// Returns the capability that a word spells: an object, and for an endpoint or a notification its
+/// rights (all if none are written) and its badge. `NoName` if there is no such object, `Not` if
+/// the rights or the badge are wrong.
 pub fn cap_of(alloc: Global, names: &Names, word: &str) -> Result<Cap, Why>
     ensures spelt { IfOk result (λ c. cap_read names.now word.now ≡ Ok c) }
     ensures told { IfErr result (Refuses (cap_read names.now word.now)) }
@@ -112,7 +112,7 @@ pub fn cap_of(alloc: Global, names: &Names, word: &str) -> Result<Cap, Why>
     }
 }
 
-/// How a plan wrote a slot: its word, and its name where that does not follow from it.
+/// Returns how a plan wrote a slot: its word, and its name unless that follows from the word.
 pub fn written_as(alloc: Global, word: &str, name: &str) -> Result<String, AllocError> {
     let mut written = String::from_str(alloc, word)?;
     if name != word && name != parts_of(word).0 {

@@ -4,8 +4,8 @@ use mcs_types::{BootFault, OutOfMemory};
 use std::alloc::{AllocError, AllocFailed};
 use std::fmt;
 
-/// Why a line of a plan is refused. The report names the word, and where a name is not there those
-/// that are.
+/// Why a line of a plan is refused. The report names the word and, for an unknown name, lists the
+/// known ones.
 #[derive(Debug, Drop)]
 pub enum Why {
     NotText,
@@ -51,7 +51,7 @@ pub enum Why {
     Unclosed {
         opened: u64,
     },
-    /// What is told of a program.
+    /// The message about a program.
     Program {
         told: String,
     },
@@ -59,7 +59,7 @@ pub enum Why {
     OutOfMemory,
 }
 
-/// Writes a word, and what is said of it.
+/// Writes a word, and a message about it.
 fn say<W: fmt::Write>(f: &mut fmt::Formatter<W>, word: &String, what: &'static str) -> fmt::Result {
     let shown = Shown {
         text: word.as_str(),
@@ -67,7 +67,7 @@ fn say<W: fmt::Write>(f: &mut fmt::Formatter<W>, word: &String, what: &'static s
     write!(f, "{shown}{what}")
 }
 
-/// Writes that a word is no name of what is wanted, and those that are there.
+/// Writes that a word is no name of what is wanted, and the existing names.
 fn say_no_name<W: fmt::Write>(
     f: &mut fmt::Formatter<W>,
     word: &String,
@@ -78,7 +78,7 @@ fn say_no_name<W: fmt::Write>(
     write!(f, "{wanted}; there are: {there}")
 }
 
-/// Writes that a thread or a space has no capability of a name, and those that it has.
+/// Writes that a thread or a space has no capability with a name, and those that it has.
 fn say_no_capability<W: fmt::Write>(
     f: &mut fmt::Formatter<W>,
     holder: &String,

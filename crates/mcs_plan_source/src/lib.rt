@@ -1,5 +1,5 @@
-//! A plan's source: objects by their names, the words of its lines, what it says before its first
-//! step (objects, threads, and what each space holds), and the fault where a word is refused.
+//! The source of a plan: objects by name, the words of lines, the declarations before the first
+//! step (objects, threads, spaces and their contents), and the faults.
 #![tactic(auto)]
 
 mod capabilities;

@@ -10,7 +10,7 @@ use mcs_types::{CNODES, Kind, OBJECTS, ObjId};
 use std::alloc::{AllocError, Global};
 use std::marker::Model;
 
-/// The names of all objects, in the order in which they were given.
+/// The names of all objects, in the order of the plan.
 #[derive(Drop)]
 pub struct Names {
     objects: IndexMap<String, ObjId>,
@@ -24,7 +24,7 @@ impl Model for Names {
     ghost view = { λ n. named_in n.objects.entries };
 }
 
-/// How many objects of a kind there may be.
+/// Returns how many objects of a kind there may be.
 pub fn limit_of(kind: Kind) -> u32
     ensures { result ≡ limit_of kind }
 {
@@ -58,7 +58,7 @@ pub fn singular(kind: Kind) -> &'static str {
     }
 }
 
-/// Adds a word, after a space where it is not the first.
+/// Appends a word, after a space unless it is the first.
 #[tactic(auto, using(crate::proofs::Entries::first_of_all, crate::proofs::Entries::one_more))]
 pub fn add_word(text: &mut String, word: &str) -> Result<(), AllocError>
     ensures { OnOk result (string_bytes text.new ≡ with_word (string_bytes text.old) word.now) }
@@ -71,7 +71,7 @@ pub fn add_word(text: &mut String, word: &str) -> Result<(), AllocError>
 }
 
 impl Names {
-    /// No names.
+    /// Returns an empty table of names.
     pub fn new(alloc: Global) -> Names
         ensures { result ≡ [] }
     {
@@ -80,7 +80,7 @@ impl Names {
         }
     }
 
-    /// Whether the name at an index is of this kind.
+    /// Returns whether the name at an index is of this kind.
     fn is_of_kind(&self, index: usize, kind: Kind) -> bool
         ensures { result ≡ is_of_kind kind (slice_get self.now index) }
     {
@@ -90,7 +90,7 @@ impl Names {
         }
     }
 
-    /// How many objects of a kind there are.
+    /// Returns how many objects of a kind there are.
     fn counted(&self, kind: Kind) -> usize
         ensures { result ≡ count_of kind self.now }
     {
@@ -103,14 +103,14 @@ impl Names {
         count
     }
 
-    /// How many objects of a kind there are, up to 2^32 - 1.
+    /// Returns how many objects of a kind there are, up to 2^32 - 1.
     pub fn count(&self, kind: Kind) -> u32
         ensures { result ≡ min (count_of kind self.now) 4294967295 }
     {
         self.counted(kind).min(4_294_967_295) as u32
     }
 
-    /// The next object of a kind, where it may have this name.
+    /// Returns the next object of a kind, if it may have this name.
     fn next(&self, alloc: Global, kind: Kind, name: &str) -> Result<ObjId, Why>
         ensures may { OnOk result (MayAdd self.now kind name.now) }
         ensures next { IfOk result (λ o. o ≡ next_of kind self.now) }
@@ -138,7 +138,7 @@ impl Names {
         })
     }
 
-    /// Gives an object a name, which is none yet.
+    /// Gives an object a name, which must be new.
     #[tactic(auto, using(crate::proofs::Entries::put_last))]
     fn put(&mut self, alloc: Global, name: &str, object: ObjId) -> Result<(), AllocError>
         requires { find self.old name.now ≡ None }
@@ -150,8 +150,8 @@ impl Names {
         Ok(())
     }
 
-    /// Names the next object of a kind. Not where the word is no name, Twice where it is one
-    /// already, and Limit where there are as many of the kind as there may be.
+    /// Names the next object of a kind. `Not` if the word is no name, `Twice` if it is one already,
+    /// and `Limit` if there are as many objects of the kind as there may be.
     pub fn add(&mut self, alloc: Global, kind: Kind, name: &str) -> Result<ObjId, Why>
         ensures added { IfOk result (λ o. Adds self.old kind name.now o self.new) }
         ensures told { IfErr result (MayNotAdd self.old kind name.now) }
@@ -169,7 +169,7 @@ impl Names {
         self.objects.get(name).copied()
     }
 
-    /// The object of this name. NoName where there is none.
+    /// The object of this name. `NoName` if there is none.
     pub fn object(&self, alloc: Global, name: &str) -> Result<ObjId, Why>
         ensures found { IfOk result (λ o. find self.now name.now ≡ Some o) }
         ensures unknown { OnErr result (find self.now name.now ≡ None) }
@@ -181,7 +181,7 @@ impl Names {
         }
     }
 
-    /// The object of this kind and name. NoName where there is none.
+    /// The object of this kind and name. `NoName` if there is none.
     pub fn of_kind(&self, alloc: Global, kind: Kind, name: &str) -> Result<ObjId, Why>
         ensures found { IfOk result (IsOfKind self.now kind name.now) }
         ensures unknown { OnErr result (HasNoneOfKind self.now kind name.now) }
@@ -195,14 +195,14 @@ impl Names {
         Err(self.no_name(alloc, name, singular(kind), Some(kind))?)
     }
 
-    /// The fault of a name that is not that of any object.
+    /// Returns the fault of a name that no object has.
     pub fn not_there(&self, alloc: Global, name: &str) -> Result<Why, AllocError>
         ensures { IfOk result (TellsNoName name.now) }
     {
         self.no_name(alloc, name, "an object", None)
     }
 
-    /// The fault of a name that is not there.
+    /// Returns the fault of an unknown name, with the known ones.
     fn no_name(
         &self,
         alloc: Global,
@@ -244,7 +244,7 @@ impl Names {
         ""
     }
 
-    /// How many names there are.
+    /// Returns how many names there are.
     pub fn len(&self) -> usize
         ensures { result ≡ length self.now }
     {

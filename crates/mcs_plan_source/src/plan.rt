@@ -1,4 +1,4 @@
-//! What a plan says before its first step.
+//! The declarations of a plan before its first step.
 ghost use Rattle.std.specs.Prelude.{◌≡◌, ◌≤◌, ◌++◌, ◌∷◌, [], None, Ok, IfOk, IfErr, OnOk, OnErr, is_some, min, option_copied, option_and_then, option_map};
 ghost use Rattle.std.specs.Option.{unwrap_or};
 ghost use Rattle.mcs_plan_source.specs.Naming.{find, limit_of};
@@ -25,7 +25,7 @@ pub struct Slot {
 /// A capability space: its slots by their names, from index 1 on. Slot 0 stays empty.
 #[derive(Drop)]
 pub struct Space {
-    /// The radix of its CNode, where the plan says one.
+    /// The radix of its CNode, if the plan gives one.
     pub radix: Option<u8>,
     pub slots: IndexMap<String, Slot>,
 }
@@ -46,7 +46,7 @@ pub struct Thread {
 /// A thread that receives before the first step, and whose context is then taken away.
 #[derive(Drop)]
 pub struct Passive {
-    /// The line that says so.
+    /// The line that declares it passive.
     pub line: u64,
     pub thread: ObjId,
     /// The names of two capabilities in its space.
@@ -54,17 +54,17 @@ pub struct Passive {
     pub reply: String,
 }
 
-/// A notification that is bound to a thread.
+/// A binding of a notification to a thread.
 #[derive(Clone, Copy)]
 pub struct Tie {
     pub thread: ObjId,
     pub notification: ObjId,
 }
 
-/// What a plan says before its first step. An object's serial is counted in the order of the lines.
+/// The declarations of a plan before its first step. Serials follow the order of the lines.
 #[derive(Drop)]
 pub struct Plan {
-    /// The number of cores, where the plan says one.
+    /// The number of cores, if the plan gives one.
     pub cores: Option<u8>,
     pub names: Names,
     /// The core of each context.
@@ -79,7 +79,7 @@ pub struct Plan {
 /// The thread that takes away the contexts of passive threads.
 pub const STARTER: &str = "starter";
 
-/// How many slots a space may have, beside slot 0.
+/// Returns how many slots a space may have, beside slot 0.
 fn most_slots(radix: Option<u8>) -> u32
     ensures { result ≡ most_slots radix }
 {
@@ -90,7 +90,7 @@ fn most_slots(radix: Option<u8>) -> u32
 }
 
 impl Space {
-    /// No slots.
+    /// Returns a space without slots.
     pub fn new(alloc: Global, radix: Option<u8>) -> Space
         ensures radix { result.radix ≡ radix }
         ensures slots { slots_of result ≡ [] }
@@ -101,14 +101,14 @@ impl Space {
         }
     }
 
-    /// Whether it has a slot of this name.
+    /// Returns whether it has a slot of this name.
     pub fn has(&self, name: &str) -> bool
         ensures { result ≡ is_some (find (slots_of self.now) name.now) }
     {
         self.slots.contains_key(name)
     }
 
-    /// Adds a slot after the others, whose name is none yet.
+    /// Adds a slot after the others, with a new name.
     #[tactic(auto, using(crate::proofs::SlotNames::put))]
     fn put(&mut self, alloc: Global, name: &str, slot: Slot) -> Result<(), AllocError>
         requires { find (slots_of self.old) name.now ≡ None }
@@ -121,8 +121,7 @@ impl Space {
         Ok(())
     }
 
-    /// Adds a slot after the others. Twice where its name is there, and Limit where the space is
-    /// full.
+    /// Adds a slot after the others. `Twice` if its name exists, and `Limit` if the space is full.
     #[tactic(auto, using(crate::proofs::SlotNames::counted))]
     pub fn add(&mut self, alloc: Global, name: &str, slot: Slot) -> Result<(), Why>
         ensures added { OnOk result (AddsSlot self.old name.now slot self.new) }
@@ -146,7 +145,7 @@ impl Space {
         Ok(())
     }
 
-    /// How many slots it has, with slot 0, up to 65,536.
+    /// Returns how many slots it has, with slot 0, up to 65,536.
     #[tactic(auto, using(crate::proofs::SlotNames::counted))]
     pub fn slots(&self) -> u32
         ensures { result ≡ slot_count self.now }
@@ -166,7 +165,7 @@ impl Space {
         slot.cap
     }
 
-    /// How many CNodes it takes beside its root: none where that has all slots.
+    /// Returns how many further CNodes it takes beside its root: none if the root has all slots.
     pub fn leaves(&self) -> u32
         ensures { result ≡ leaves_of self.now }
     {
@@ -177,7 +176,7 @@ impl Space {
         (slots - 1) / 256 + 1
     }
 
-    /// All its slots, as the plan wrote them.
+    /// Returns all its slots, as the plan wrote them.
     pub fn listed(&self, alloc: Global) -> Result<String, AllocError> {
         let mut there = String::new(alloc);
         for slot in self.slots.values() {
@@ -205,7 +204,7 @@ impl Plan {
         }
     }
 
-    /// How many CNodes its larger spaces take beside their roots, up to 2^32 - 1.
+    /// Returns how many further CNodes its larger spaces take, up to 2^32 - 1.
     pub fn leaves(&self) -> u32
         ensures { result ≡ min (all_leaves self.now) 4294967295 }
     {
@@ -216,7 +215,7 @@ impl Plan {
         count
     }
 
-    /// One more of a kind where a thread is passive.
+    /// Returns how many objects of a kind the starter adds: one if a thread is passive.
     fn of_starter(&self, kind: Kind) -> u32
         ensures { result ≡ of_starter (said self.now) kind }
     {
@@ -226,7 +225,7 @@ impl Plan {
         0
     }
 
-    /// The CNodes of larger spaces.
+    /// Returns how many objects of a kind larger spaces add: their further CNodes.
     fn of_spaces(&self, kind: Kind) -> u32
         ensures { result ≡ min (of_spaces (said self.now) kind) 4294967295 }
     {
@@ -236,8 +235,8 @@ impl Plan {
         }
     }
 
-    /// How many objects of a kind the script makes, up to 2^32 - 1: those of the plan, the thread
-    /// that makes others passive with its context and its space, and the CNodes of larger spaces.
+    /// Returns how many objects of a kind the script makes, up to 2^32 - 1: the plan's, the starter
+    /// with its context and its space, and the further CNodes of larger spaces.
     pub fn made(&self, kind: Kind) -> u32
         ensures { result ≡ min (made_of (said self.now) kind) 4294967295 }
     {
@@ -247,7 +246,7 @@ impl Plan {
             .saturating_add(self.of_spaces(kind))
     }
 
-    /// Fails with Limit where the script would make more objects of a kind than there may be.
+    /// Fails with `Limit` if the script would make more objects of a kind than there may be.
     pub fn keeps_limit(&self, kind: Kind) -> Result<(), Why>
         ensures within { OnOk result (made_of (said self.now) kind ≤ limit_of kind) }
         ensures ok { OnOk result (keeps_limit kind (said self.now) ≡ Ok tt) }
@@ -263,7 +262,7 @@ impl Plan {
         })
     }
 
-    /// The space of a thread.
+    /// Returns the index of a thread's space.
     pub fn space_of(&self, thread: ObjId) -> usize
         ensures { result ≡ space_of self.now thread }
     {
@@ -273,7 +272,7 @@ impl Plan {
         }
     }
 
-    /// Returns the thread with this id; None where the plan has none.
+    /// Returns the thread with this id; None if the plan has none.
     pub fn thread(&self, thread: ObjId) -> Option<&Thread>
         ensures { option_copied result ≡ thread_in self.now thread }
     {
@@ -299,7 +298,7 @@ impl Plan {
     }
 }
 
-/// Whether each thread has one of this kind.
+/// Returns whether a thread comes with one object of this kind: itself, a context or a CNode.
 fn is_of_thread(kind: Kind) -> bool
     ensures { result ≡ is_of_thread kind }
 {

@@ -1,4 +1,4 @@
-//! The lines of a plan before its first step.
+//! Reads the lines of a plan before its first step.
 ghost use Rattle.std.specs.Prelude.{◌≡◌, ◌++◌, true, false, Ok, IfOk, IfErr, OnOk, OnErr, length, slice_get, string_bytes, option_map};
 ghost use Rattle.mcs_types.specs.declared.id.Kind.TheVariants.{CNode, Context};
 ghost use Rattle.mcs_types.specs.declared.id.Kind.TheVariants as of_kind;
@@ -19,7 +19,7 @@ use crate::{Names, Why, Words, is_name, not};
 use mcs_types::{CORES, Cap, CoreId, Kind, ObjId, Prio, RADIX};
 use std::alloc::{AllocError, Global};
 
-/// What the line of a thread says.
+/// The parts of a thread's line.
 #[derive(Drop)]
 struct ThreadForm {
     priority: Option<u8>,
@@ -31,14 +31,14 @@ struct ThreadForm {
     passive: Option<Receiving>,
 }
 
-/// With which capabilities a passive thread receives.
+/// The capabilities with which a passive thread receives.
 #[derive(Drop)]
 struct Receiving {
     endpoint: String,
     reply: String,
 }
 
-/// A text of a name with an ending.
+/// Returns a name with a suffix.
 fn with_end(alloc: Global, name: &str, end: &str) -> Result<String, AllocError>
     ensures { IfOk result (λ whole. string_bytes whole ≡ name.now ++ end.now) }
 {
@@ -56,7 +56,7 @@ fn byte(alloc: Global, words: &mut Words<'_>, wanted: &'static str, limit: u8) -
     Ok(n.min(255) as u8)
 }
 
-/// Whether the next word is `as`.
+/// Returns whether the next word is `as`.
 fn says_as(words: &Words<'_>) -> bool
     ensures { result ≡ says_as words.now }
 {
@@ -79,7 +79,7 @@ fn given_name(alloc: Global, words: &mut Words<'_>) -> Result<String, Why>
     Ok(String::from_str(alloc, name)?)
 }
 
-/// What a slot is to hold: a capability, or nothing.
+/// Returns what a word puts into a slot: a capability, or nothing.
 fn held_by(alloc: Global, names: &Names, word: &str) -> Result<Option<Cap>, Why>
     ensures held { IfOk result (λ cap. held_by names.now word.now ≡ Ok cap) }
     ensures told { IfErr result (Refuses (held_by names.now word.now)) }
@@ -90,7 +90,7 @@ fn held_by(alloc: Global, names: &Names, word: &str) -> Result<Option<Cap>, Why>
     Ok(Some(cap_of(alloc, names, word)?))
 }
 
-/// Reads the radix of a CNode, where the line says one.
+/// Reads the radix of a CNode, if the line says one.
 fn read_radix(alloc: Global, words: &mut Words<'_>) -> Result<Option<u8>, Why>
     ensures radix { IfOk result (λ r. radix_then words.old ≡ Ok (r, words.new)) }
     ensures told { IfErr result (Refuses (radix_then words.old)) }
@@ -105,7 +105,7 @@ fn read_radix(alloc: Global, words: &mut Words<'_>) -> Result<Option<u8>, Why>
     Ok(Some(n))
 }
 
-/// Reads `without context`, where the line says it. Returns whether the thread has a context.
+/// Reads `without context`, if the line says it. Returns whether the thread has a context.
 fn read_without(alloc: Global, words: &mut Words<'_>) -> Result<bool, Why>
     ensures none { IfOk result (λ has. without_then words.old ≡ Ok (has, words.new)) }
     ensures told { IfErr result (Refuses (without_then words.old)) }
@@ -114,7 +114,7 @@ fn read_without(alloc: Global, words: &mut Words<'_>) -> Result<bool, Why>
     Ok(false)
 }
 
-/// Returns what a thread's line says where no part says otherwise.
+/// Returns the defaults of a thread's line.
 fn new_form() -> ThreadForm
     ensures { form_of result ≡ plain_form }
 {
@@ -183,7 +183,7 @@ fn read_in(alloc: Global, words: &mut Words<'_>, form: &mut ThreadForm) -> Resul
     Ok(())
 }
 
-/// Whether the next word is `has`.
+/// Returns whether the next word is `has`.
 fn says_has(words: &Words<'_>) -> bool
     ensures { result ≡ says_has words.now }
 {
@@ -223,7 +223,7 @@ impl Plan {
         Ok(())
     }
 
-    /// Reads the number of a core. Not where there are fewer cores.
+    /// Reads the number of a core. `Not` if the machine has fewer cores.
     fn read_core(&self, alloc: Global, words: &mut Words<'_>) -> Result<u8, Why>
         ensures core { IfOk result (λ n. core_then self.now.cores words.old ≡ Ok (n, words.new)) }
         ensures told { IfErr result (Refuses (core_then self.now.cores words.old)) }
@@ -274,7 +274,7 @@ impl Plan {
         Ok(place)
     }
 
-    /// Reads the core of a context: 0 where the line says none.
+    /// Reads the core of a context: 0 if the line says none.
     fn read_on(&self, alloc: Global, words: &mut Words<'_>) -> Result<u8, Why>
         ensures core { IfOk result (λ n. on_then self.now.cores words.old ≡ Ok (n, words.new)) }
         ensures told { IfErr result (Refuses (on_then self.now.cores words.old)) }
@@ -354,7 +354,7 @@ impl Plan {
         }
     }
 
-    /// Reads the next part of a thread's line, where there is one.
+    /// Reads the next part of a thread's line, if there is one.
     fn read_next(
         &self,
         alloc: Global,
@@ -373,7 +373,7 @@ impl Plan {
         }
     }
 
-    /// Reads the parts of a thread's line, as far as it goes.
+    /// Reads the parts of a thread's line, to its end.
     #[tactic(auto, using(crate::proofs::Turns::parts_turn, crate::proofs::Turns::parts_last))]
     fn read_parts(
         &self,
@@ -393,7 +393,7 @@ impl Plan {
         Ok(())
     }
 
-    /// Reads what a thread's line says after its name.
+    /// Reads a thread's line after the name.
     fn read_form(&self, alloc: Global, words: &mut Words<'_>) -> Result<ThreadForm, Why>
         ensures said { IfOk result (λ f. form_said self.now.cores words.old ≡ Ok (form_of f)) }
         ensures told { IfErr result (Refuses (form_said self.now.cores words.old)) }
@@ -426,7 +426,7 @@ impl Plan {
         }
     }
 
-    /// Makes the context of a thread, where it has one.
+    /// Makes the context of a thread, if it has one.
     fn read_own_context(
         &mut self,
         alloc: Global,
@@ -484,7 +484,7 @@ impl Plan {
         Ok(thread)
     }
 
-    /// Adds a passive thread, where the thread is one.
+    /// Adds a passive thread, if the thread is one.
     fn add_passive(
         &mut self,
         line: u64,
@@ -507,7 +507,7 @@ impl Plan {
         Ok(())
     }
 
-    /// Adds a thread of this name, of which its line says this. Missing where it has no priority.
+    /// Adds a thread with this name and these parts of its line. `Missing` if it has no priority.
     fn put_form(
         &mut self,
         alloc: Global,
@@ -528,7 +528,7 @@ impl Plan {
         Ok(())
     }
 
-    /// Adds a thread as its line says it.
+    /// Adds the thread of a line.
     fn put_thread(&mut self, alloc: Global, line: u64, words: &mut Words<'_>) -> Result<(), Why>
         ensures added { OnOk result
             (thread_said line words.old (said self.old) ≡ Ok (said self.new)) }
@@ -551,14 +551,14 @@ impl Plan {
         self.keeps_limit(Kind::CNode)
     }
 
-    /// Whether a thread is bound.
+    /// Returns whether a thread is bound.
     fn is_thread_bound(&self, thread: ObjId) -> bool
         ensures { result ≡ is_thread_bound self.now.ties.items thread }
     {
         self.ties.iter().any(|tie| tie.thread.is_same(thread))
     }
 
-    /// Whether a notification is bound.
+    /// Returns whether a notification is bound.
     fn is_notification_bound(&self, notification: ObjId) -> bool
         ensures { result ≡ is_notification_bound self.now.ties.items notification }
     {
@@ -567,8 +567,8 @@ impl Plan {
             .any(|tie| tie.notification.is_same(notification))
     }
 
-    /// Adds a binding of a thread and a notification, which the line names by these words. Bound
-    /// where one of the two is bound already.
+    /// Adds a binding of a thread and a notification that the line names. `Bound` if one of them is
+    /// bound already.
     fn add_tie(
         &mut self,
         alloc: Global,
@@ -601,7 +601,7 @@ impl Plan {
         Ok(())
     }
 
-    /// Reads the line of a binding: `tie THREAD NOTIFICATION`. Bound where one of the two is bound
+    /// Reads the line of a binding: `tie THREAD NOTIFICATION`. `Bound` if one of the two is bound
     /// already.
     fn read_tie(&mut self, alloc: Global, words: &mut Words<'_>) -> Result<(), Why>
         ensures added { OnOk result (tie_line words.old (said self.old) ≡ Ok (said self.new)) }
@@ -616,7 +616,7 @@ impl Plan {
         self.add_tie(alloc, thread_word, thread, word, notification)
     }
 
-    /// Reads the line of the number of cores, which comes first. Late where a context was made.
+    /// Reads the line of the number of cores, which comes first. `Late` after a context was made.
     fn read_cores(&mut self, alloc: Global, words: &mut Words<'_>) -> Result<(), Why>
         ensures added { OnOk result (cores_line words.old (said self.old) ≡ Ok (said self.new)) }
         ensures told { IfErr result (Refuses (cores_line words.old (said self.old))) }
@@ -653,8 +653,8 @@ impl Plan {
         Ok(self.space_of(thread))
     }
 
-    /// Returns whether the space at this place has a slot of this name; false where there is no
-    /// such space.
+    /// Returns whether the space at this index has a slot of this name; false if there is no such
+    /// space.
     #[tactic(auto, using(crate::proofs::Places::slot_there, crate::proofs::Places::no_slot_there))]
     fn has_slot(&self, place: usize, name: &str) -> bool
         ensures { result ≡ has_slot (slice_get (said self.now).spaces place) name.now }
@@ -665,8 +665,8 @@ impl Plan {
         }
     }
 
-    /// The name of a slot that has none of its own: that of its object, or the whole word where
-    /// that is taken. Missing for an empty slot.
+    /// Returns the default name of a slot: that of its object, or the whole word if that name is
+    /// taken. `Missing` for an empty slot.
     fn usual_name(&self, alloc: Global, place: usize, word: &str) -> Result<String, Why>
         ensures name { IfOk result (λ n.
             usual_name (slice_get (said self.now).spaces place) word.now ≡ Ok (string_bytes n)) }
@@ -683,7 +683,7 @@ impl Plan {
         Ok(String::from_str(alloc, name)?)
     }
 
-    /// Reads the name of a slot: the word after `as`, or the usual one.
+    /// Reads the name of a slot: the word after `as`, or the default.
     fn slot_name(
         &self,
         alloc: Global,
@@ -703,7 +703,7 @@ impl Plan {
         given_name(alloc, words)
     }
 
-    /// Adds a slot of a space. Twice where its name is there, and Limit where the space is full.
+    /// Adds a slot to a space. `Twice` if its name exists, and `Limit` if the space is full.
     fn add_slot(&mut self, alloc: Global, place: usize, name: &str, slot: Slot) -> Result<(), Why>
         ensures added { OnOk result
             (slot_added place name.now slot.cap (said self.old) ≡ Ok (said self.new)) }
@@ -717,8 +717,8 @@ impl Plan {
         space.add(alloc, name, slot)
     }
 
-    /// Adds a slot to the space at a place: with the capability that `word` spells, or empty for
-    /// `-`, and with the name of `as NAME` where that follows. After a fault nothing has changed.
+    /// Adds a slot to the space at an index: with the capability that `word` spells, or empty for
+    /// `-`, and with the name of `as NAME` if that follows. After a fault nothing has changed.
     fn put_slot(
         &mut self,
         alloc: Global,
@@ -738,7 +738,7 @@ impl Plan {
         self.add_slot(alloc, place, name.as_str(), Slot { cap, written })
     }
 
-    /// Does the same, where the space then takes no more CNodes than there may be.
+    /// Adds a slot as `put_slot` does, if the space then takes no more CNodes than there may be.
     fn read_slot(
         &mut self,
         alloc: Global,
@@ -785,7 +785,7 @@ impl Plan {
         self.read_slots(alloc, place, words)
     }
 
-    /// Reads a line that begins with this word. Unknown where it begins none.
+    /// Reads a line that begins with this word. `Unknown` if no line does.
     fn read_line(
         &mut self,
         alloc: Global,
@@ -813,8 +813,8 @@ impl Plan {
         }
     }
 
-    /// Reads a line before the first step. Where it is refused, the first fault is returned. What
-    /// the plan then says is not specified: the caller drops it.
+    /// Reads a line before the first step. If it is refused, the first fault is returned. The
+    /// contents of the plan are then unspecified: the caller drops it.
     pub fn read(&mut self, alloc: Global, line: u64, words: &[&str]) -> Result<(), Why>
         ensures taken { OnOk result (ReadsLine line (texts words.now) self.old (said self.new)) }
         ensures refused { IfErr result (RefusesLine line (texts words.now) self.old) }

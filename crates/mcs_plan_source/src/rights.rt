@@ -17,7 +17,8 @@ fn bit_of(letter: u8) -> u8
     }
 }
 
-/// Rights with those of a letter. None where it is no letter of rights, or was there.
+/// Returns rights with the right of a letter added. None if it is no letter of rights, or was
+/// there.
 #[tactic(auto, using(crate::proofs::PlanWords::few_bits))]
 fn with_letter(bits: u8, letter: u8) -> Option<u8>
     requires { bits < 16 }

@@ -6,14 +6,14 @@ ghost use Rattle.mcs_plan_source.specs.Showing.{is_seen, digit_of, shown_byte, s
 
 use std::fmt;
 
-/// A text of a plan, as a fault shows it: in quotes, with `\x` and two digits for each byte that is
-/// no printable one of ASCII, and with the names of what is easily overlooked after it.
+/// A text of a plan as faults show it: in quotes, with `\x` and two digits for each byte that is
+/// not printable ASCII, and then the names of easily overlooked characters in it.
 #[derive(Clone, Copy)]
 pub struct Shown<'a> {
     pub text: &'a str,
 }
 
-/// Whether a byte is shown as it is.
+/// Returns whether a byte is shown as it is.
 fn is_seen(byte: u8) -> bool
     ensures { result ≡ is_seen byte }
 {
@@ -59,14 +59,14 @@ fn write_bytes<W: fmt::Write>(f: &mut fmt::Formatter<W>, bytes: &[u8]) -> fmt::R
     Ok(())
 }
 
-/// Whether a text has this byte.
+/// Returns whether a text has this byte.
 fn has_byte(text: &[u8], wanted: u8) -> bool
     ensures { result ≡ has_byte wanted text.now }
 {
     text.iter().any(|byte| *byte == wanted)
 }
 
-/// Whether a text begins with the byte order mark of UTF-8.
+/// Returns whether a text begins with the byte order mark of UTF-8.
 fn begins_with_mark(text: &[u8]) -> bool
     ensures { result ≡ begins_with_mark text.now }
 {
@@ -76,14 +76,14 @@ fn begins_with_mark(text: &[u8]) -> bool
     }
 }
 
-/// Returns this note, where it holds.
+/// Returns this note if `holds`, else an empty one.
 fn note(holds: bool, what: &'static str) -> &'static str
     ensures { result.now ≡ note holds what.now }
 {
     if holds { what } else { "" }
 }
 
-/// Writes the names of what is easily overlooked in a text.
+/// Writes the names of easily overlooked characters in a text.
 fn write_notes<W: fmt::Write>(f: &mut fmt::Formatter<W>, text: &[u8]) -> fmt::Result
     ensures { WritesOnOk W.write_str_gives f.old result (notes_of text.now) f.new }
 {

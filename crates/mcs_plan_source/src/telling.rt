@@ -1,4 +1,4 @@
-//! The names of a script, put into a trace.
+//! Puts the names of a script into a trace.
 use indexmap::IndexMap;
 use std::alloc::{AllocError, Global};
 
@@ -31,7 +31,7 @@ fn names_of<'a>(
     Ok(names)
 }
 
-/// Adds a word, by its name where it is an object or a queue of one.
+/// Appends a word. An object, also in the word of a queue as `e1.send`, gets its name for its id.
 fn add_told(
     to: &mut Vec<u8>,
     names: &IndexMap<Vec<u8>, &[u8]>,
@@ -50,7 +50,7 @@ fn add_told(
     Ok(())
 }
 
-/// Adds the words of a line by their names.
+/// Appends the words of a line, with names for ids.
 fn add_words(
     to: &mut Vec<u8>,
     names: &IndexMap<Vec<u8>, &[u8]>,
@@ -65,7 +65,7 @@ fn add_words(
     Ok(())
 }
 
-/// Adds a line by its names; as it is where it begins with `#`.
+/// Appends a line, with names for ids. A line that begins with `#` stays unchanged.
 fn add_line(
     to: &mut Vec<u8>,
     names: &IndexMap<Vec<u8>, &[u8]>,
@@ -77,7 +77,7 @@ fn add_line(
     add_words(to, names, line)
 }
 
-/// Adds the lines of a trace by their names.
+/// Appends the lines of a trace, with names for ids.
 fn add_lines(
     to: &mut Vec<u8>,
     names: &IndexMap<Vec<u8>, &[u8]>,
@@ -92,8 +92,8 @@ fn add_lines(
     Ok(())
 }
 
-/// A trace, in which each object has the name that the script gives it. Lines that begin with `#`
-/// stay as they are.
+/// Returns a trace in which each object has the name that the script gives it. Lines that begin
+/// with `#` stay unchanged.
 pub fn tell_names(alloc: Global, script: &[u8], trace: &[u8]) -> Result<Vec<u8>, AllocError> {
     let names = names_of(alloc, script)?;
     let mut to = Vec::new(alloc);

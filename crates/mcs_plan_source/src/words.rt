@@ -10,7 +10,7 @@ use crate::fault::Why;
 use std::alloc::{AllocError, Global};
 use std::marker::Model;
 
-/// The words of a line, of which some were taken.
+/// The words of a line, and how many of them were taken.
 #[derive(Drop)]
 pub struct Words<'a> {
     words: &'a [&'a str],
@@ -34,7 +34,7 @@ impl<'a> Model for Words<'a> {
 }
 
 impl<'a> Words<'a> {
-    /// All words.
+    /// Returns a cursor before the first word.
     pub fn new(words: &'a [&'a str]) -> Words<'a>
         ensures { result ≡ texts words.now }
     {
@@ -55,14 +55,14 @@ impl<'a> Words<'a> {
         }
     }
 
-    /// The next word, which is left.
+    /// Returns the next word without taking it.
     pub fn peek(&self) -> Option<&'a str>
         ensures { option_map (λ w. w.now) result ≡ slice_get self.now 0 }
     {
         word_at(self.words, self.taken)
     }
 
-    /// How many words are left.
+    /// Returns how many words are left.
     #[tactic(auto, using(crate::proofs::Entries::words_left))]
     pub fn len(&self) -> usize
         ensures { result ≡ length self.now }
@@ -70,7 +70,7 @@ impl<'a> Words<'a> {
         self.words.len().saturating_sub(self.taken)
     }
 
-    /// Takes a word. Missing where none is left.
+    /// Takes a word. `Missing` if none is left.
     pub fn need(&mut self, wanted: &'static str) -> Result<&'a str, Why>
         ensures word { IfOk result (λ w. self.old ≡ w.now ∷ self.new) }
         ensures told { IfErr result (TellsMissing self.old) }
@@ -81,7 +81,7 @@ impl<'a> Words<'a> {
         }
     }
 
-    /// Takes this word. Missing where none is left, Not for another.
+    /// Takes this word. `Missing` if none is left, `Not` for another word.
     pub fn expect(&mut self, alloc: Global, wanted: &'static str) -> Result<(), Why>
         ensures ok { OnOk result (self.old ≡ wanted.now ∷ self.new) }
         ensures told { IfErr result (TellsOther wanted.now self.old) }
@@ -94,7 +94,7 @@ impl<'a> Words<'a> {
         }
     }
 
-    /// Fails with TooMany where a word is left.
+    /// Fails with `TooMany` if a word is left.
     pub fn end(&mut self, alloc: Global) -> Result<(), Why>
         ensures ok { OnOk result (self.old ≡ []) }
         ensures told { IfErr result (TellsTooMany self.old) }
@@ -107,8 +107,8 @@ impl<'a> Words<'a> {
         }
     }
 
-    /// Takes a number, in decimal or hexadecimal. Missing where no word is left, Not where it is
-    /// none, or above the limit.
+    /// Takes a number, in decimal or hexadecimal. `Missing` if no word is left, `Not` if it is no
+    /// number or above the limit.
     #[tactic(auto, using(crate::proofs::Entries::takes_number, crate::proofs::Spelled::reads_number, crate::proofs::Spelled::too_large, crate::proofs::Spelled::no_number))]
     pub fn number(&mut self, alloc: Global, wanted: &'static str, limit: u64) -> Result<u64, Why>
         ensures taken { OnOk result (TakesNumber self.old self.new) }
@@ -126,7 +126,8 @@ impl<'a> Words<'a> {
     }
 }
 
-/// The fault of a word that is not what is wanted; OutOfMemory where the word is not copied.
+/// Returns the fault for a word that is not what is wanted; OutOfMemory if the word could not be
+/// copied.
 pub fn not(alloc: Global, word: &str, wanted: &'static str) -> Why
     ensures { TellsNot word.now result }
 {
@@ -136,7 +137,7 @@ pub fn not(alloc: Global, word: &str, wanted: &'static str) -> Why
     }
 }
 
-/// The words of a line, between which spaces and tabs are.
+/// Returns the words of a line, which spaces and tabs separate.
 pub fn split_words<'a>(alloc: Global, line: &'a str) -> Result<Vec<&'a str>, AllocError>
     ensures { IfOk result (λ words. texts words.items ≡ words_of line.now) }
 {
@@ -145,14 +146,14 @@ pub fn split_words<'a>(alloc: Global, line: &'a str) -> Result<Vec<&'a str>, All
         .collect(alloc)
 }
 
-/// Whether a byte is a space or a tab.
+/// Returns whether a byte is a space or a tab.
 pub fn is_white(byte: u8) -> bool
     ensures { result ≡ is_white byte }
 {
     byte == 32 || byte == 9
 }
 
-/// How many bytes of a line are before its comment; all where it has none.
+/// Returns how many bytes of a line are before its comment; all if it has none.
 fn code_len(line: &[u8]) -> usize
     ensures { result ≡ code_len true line.now }
 {
@@ -176,7 +177,7 @@ pub fn split_comment<'a>(line: &'a str) -> (&'a str, Option<&'a str>)
     (code, rest.strip_prefix('#'))
 }
 
-/// Whether a word begins with a digit.
+/// Returns whether a word begins with a digit.
 fn begins_with_digit(word: &str) -> bool
     ensures { result ≡ begins_with_digit word.now }
 {
@@ -186,7 +187,7 @@ fn begins_with_digit(word: &str) -> bool
     }
 }
 
-/// Whether a word begins with a plus, which may be before digits elsewhere.
+/// Returns whether a word begins with a plus, which other parsers allow before digits.
 fn begins_with_plus(word: &str) -> bool
     ensures { result ≡ (slice_index word.now 0 == 43) }
 {
@@ -196,8 +197,8 @@ fn begins_with_plus(word: &str) -> bool
     }
 }
 
-/// The number that digits of this base spell. None where they are no digits of it, or spell more
-/// than 64 bits.
+/// Returns the number that digits of this base spell. None if they are no digits of it, or spell
+/// 2^64 or more.
 #[tactic(auto, using(crate::proofs::Spelled::parsed, crate::proofs::Spelled::signed))]
 fn number_in(radix: u32, digits: &str) -> Option<u64>
     requires lower { 2 ≤ radix }
@@ -210,7 +211,8 @@ fn number_in(radix: u32, digits: &str) -> Option<u64>
     u64::from_str_radix(digits, radix).ok()
 }
 
-/// A number of 64 bits: decimal, or hexadecimal after `0x`. None where the word is none.
+/// Returns the 64-bit number that a word spells: decimal, or hexadecimal after `0x`. None if it
+/// spells none.
 #[tactic(auto, using(crate::proofs::Spelled::hexadecimal, crate::proofs::Spelled::not_hexadecimal))]
 pub fn number(word: &str) -> Option<u64>
     ensures digit { OnSome result (begins_with_digit word.now ≡ true) }
@@ -225,28 +227,28 @@ pub fn number(word: &str) -> Option<u64>
     }
 }
 
-/// Whether a byte is a letter.
+/// Returns whether a byte is a letter.
 fn is_letter(byte: u8) -> bool
     ensures { result ≡ is_letter byte }
 {
     (65 <= byte && byte <= 90) || (97 <= byte && byte <= 122)
 }
 
-/// Whether a byte is a digit.
+/// Returns whether a byte is a digit.
 fn is_digit(byte: u8) -> bool
     ensures { result ≡ is_digit byte }
 {
     48 <= byte && byte <= 57
 }
 
-/// Whether a byte may be in a name.
+/// Returns whether a byte may be in a name.
 fn is_name_byte(byte: u8) -> bool
     ensures { result ≡ is_name_byte byte }
 {
     is_letter(byte) || is_digit(byte) || byte == 45 || byte == 46 || byte == 95
 }
 
-/// Whether all bytes may be in a name.
+/// Returns whether all bytes may be in a name.
 fn are_name_bytes(bytes: &[u8]) -> bool
     ensures { result ≡ list_all is_name_byte bytes.now }
 {
@@ -258,7 +260,7 @@ fn are_name_bytes(bytes: &[u8]) -> bool
     true
 }
 
-/// Whether all bytes are digits.
+/// Returns whether all bytes are digits.
 fn are_digits(bytes: &[u8]) -> bool
     ensures { result ≡ list_all is_digit bytes.now }
 {
@@ -270,14 +272,15 @@ fn are_digits(bytes: &[u8]) -> bool
     true
 }
 
-/// Whether a byte is the letter of a kind of objects.
+/// Returns whether a byte is the letter of a kind of objects.
 fn is_kind_letter(byte: u8) -> bool
     ensures { result ≡ is_kind_letter byte }
 {
     byte == 99 || byte == 101 || byte == 110 || byte == 114 || byte == 115 || byte == 116
 }
 
-/// Whether a word has the shape of an object's id, as `t1`: the letter of a kind, and digits.
+/// Returns whether a word has the shape of an object's id, as `t1`: the letter of a kind, and
+/// digits.
 pub fn is_like_id(word: &[u8]) -> bool
     ensures { result ≡ is_like_id word.now }
 {
@@ -289,7 +292,7 @@ pub fn is_like_id(word: &[u8]) -> bool
     }
 }
 
-/// Whether a word begins with a letter, and has letters, digits, `-`, `_` and `.`.
+/// Returns whether a word begins with a letter, and has letters, digits, `-`, `_` and `.`.
 fn is_name_text(word: &[u8]) -> bool
     ensures { result ≡ is_name_text word.now }
 {
@@ -299,8 +302,8 @@ fn is_name_text(word: &[u8]) -> bool
     }
 }
 
-/// Whether a word may be a name: it begins with a letter, has letters, digits, `-`, `_` and `.`,
-/// and not the shape of an id.
+/// Returns whether a word may be a name: it begins with a letter, has letters, digits, `-`, `_` and
+/// `.`, and does not look like an id.
 pub fn is_name(word: &str) -> bool
     ensures { result ≡ is_name word.now }
 {

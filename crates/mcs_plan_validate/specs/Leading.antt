@@ -10,7 +10,7 @@ use Rattle.mcs_state.specs.Questions.{named_for, placed_for}
 use Rattle.mcs_plan_layout.specs.declared.tables.Named.{Named}
 
 -- an address of a thread names what a slot holds, unless that is nothing; what has no address is a
--- capability to a CNode, through which lookup goes on
+-- capability to a CNode, through which lookup continues
 abbrev pub IsNamed : Log → ObjId → Option ℕ → Option Cap → Type 0
 IsNamed R t (Some address) None = Unit {0}
 IsNamed R t (Some address) (Some cap) = named_for R t address ≡ Some (Ok cap)

@@ -16,7 +16,7 @@ pub record IsScript (text : List ℕ) (book : Book) : Type 0 where
   pub reads : steps text ≡ (record { boot = Some book.boot; items = items }, None)
   pub makes : book ≡ book_of book.boot items
 
--- so where there is a book
+-- a text is the script of a book, if there is a book
 abbrev pub IsScriptOf : List ℕ → Option Book → Type 0
 IsScriptOf text (Some book) = IsScript text book
 IsScriptOf text None = ⊥

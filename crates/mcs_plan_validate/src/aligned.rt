@@ -1,14 +1,14 @@
-//! A text of users whose questions stand in the lines in which the plan has them.
+//! Aligns a script of users with its plan: each question is at its line of the plan.
 use std::alloc::{AllocError, Global};
 
-/// A text, and for each of its lines the number of the plan's line of which it came.
+/// A text, and for each of its lines the number of the plan's line from which it came.
 #[derive(Drop)]
 pub struct Numbered {
     pub text: Vec<u8>,
     pub numbers: Vec<u64>,
 }
 
-/// A line, and the number of the plan's line of which it came.
+/// A line, and the number of the plan's line from which it came.
 #[derive(Clone, Copy)]
 struct Line<'a> {
     text: &'a [u8],
@@ -23,8 +23,7 @@ struct Sorted<'a> {
 }
 
 /// Returns whether a line asks something of all orders that is reported by its line: it begins with
-/// `#!`, and its first word behind that, if it has one, is not `idle` and does not end with `:`, as
-/// that of a statement does.
+/// `#!`, and its next word, if any, is not `idle` and does not end with `:`, as in a statement.
 fn is_question(line: &[u8]) -> bool {
     match line {
         [b'#', b'!', b' ', text @ ..] => {
@@ -37,7 +36,7 @@ fn is_question(line: &[u8]) -> bool {
 }
 
 impl<'a> Sorted<'a> {
-    /// Returns the lines of a text, whose numbers are these.
+    /// Returns the lines of a text with these numbers.
     fn new(alloc: Global, text: &'a [u8], numbers: &[u64]) -> Result<Sorted<'a>, AllocError> {
         let mut sorted = Sorted {
             questions: Vec::new(alloc),
@@ -62,7 +61,7 @@ impl<'a> Sorted<'a> {
         Ok(())
     }
 
-    /// Returns how many lines hold all, with each question in its line.
+    /// Returns how many lines are needed for all, with each question in its line.
     fn count(&self) -> u64 {
         let all = self.questions.len().saturating_add(self.others.len()) as u64;
         match self.questions.last() {
@@ -81,8 +80,8 @@ impl Numbered {
         Ok(())
     }
 
-    /// Adds the line of this number: a question that has it, else the next of the others, else a
-    /// comment where questions follow. Returns whether it added one; counts those that it took.
+    /// Adds the next line with this number: the question that has it, else the next other line,
+    /// else a comment if questions follow. Returns whether it added one; counts those that it took.
     fn add_next(
         &mut self,
         sorted: &Sorted<'_>,
@@ -110,9 +109,9 @@ impl Numbered {
     }
 }
 
-/// Returns the text of users with the same lines, in which each question stands in the line in
-/// which the plan has it: so what is told of a question names that line. The other lines keep their
-/// order, and so do the questions; what a question means does not depend on where it stands.
+/// Returns the script of users with the same lines, in which each question is at its line of the
+/// plan, so that a report on a question names that line. The other lines keep their order, and so
+/// do the questions; what a question means does not depend on its position.
 pub fn align_questions(
     alloc: Global,
     text: &[u8],

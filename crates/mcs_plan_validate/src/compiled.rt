@@ -1,4 +1,4 @@
-//! The script of a plan, which was read back.
+//! The script of a plan, after reading it back.
 ghost use Rattle.std.specs.Prelude.{◌≡◌, true, IfOk, OnOk};
 ghost use Rattle.mcs_plan_compile.specs.Scripts.{HasBootOfPlan};
 ghost use Rattle.mcs_plan_validate.specs.Reading.{IsBootOf, IsVouched};
@@ -19,20 +19,20 @@ const THREADS: usize = 256;
 #[derive(Drop)]
 pub struct Compiled {
     pub script: Script,
-    /// What of the text was read back: all of it, or its boot where users' lines follow.
+    /// What of the text was read back: all of it, or its boot if lines of users follow.
     pub read: Vec<u8>,
-    /// The users' lines; none where the script is one of steps.
+    /// The users' lines; none if the script is one of steps.
     pub users: Vec<u8>,
 }
 
-/// Whether a book has the boot that a script says.
+/// Returns whether a book has the boot that a script says.
 fn has_boot(book: &Book, script: &Script) -> bool
     ensures { result ≡ true → IsBootOf script.now book.now.book.boot }
 {
     book.cores() == script.cores && are_same_lines(book.boot(), &script.boot)
 }
 
-/// Fails with OtherBoot where the boot of a book is not the one that a script says.
+/// Fails with `OtherBoot` if the boot of a book is not the one that a script says.
 fn keeps_boot(book: &Book, script: &Script) -> Result<(), CompileFault>
     ensures { OnOk result (IsBootOf script.now book.now.book.boot) }
 {
@@ -42,7 +42,7 @@ fn keeps_boot(book: &Book, script: &Script) -> Result<(), CompileFault>
     Err(CompileFault::OtherBoot)
 }
 
-/// Reads a text as a script, compares its boot with the plan's, and tries each name after it.
+/// Reads a text as a script, compares its boot with the plan's, and looks up each name after it.
 fn vouch(alloc: Global, text: &[u8], script: &Script) -> Result<(), CompileFault>
     requires { HasBootOfPlan script.now }
     ensures { OnOk result (IsVouched text.now script.now.laid) }
@@ -63,7 +63,7 @@ fn vouch(alloc: Global, text: &[u8], script: &Script) -> Result<(), CompileFault
     }
 }
 
-/// Whether a line after the boot is skipped, or one of a user.
+/// Returns whether a line after the boot is skipped, or one of a user.
 fn is_user(alloc: Global, threads: u32, line: &[u8]) -> Result<bool, OutOfMemory> {
     if matches!(line, [] | [b'#', ..]) {
         return Ok(true);
@@ -72,7 +72,7 @@ fn is_user(alloc: Global, threads: u32, line: &[u8]) -> Result<bool, OutOfMemory
     Ok(read_user(alloc, threads, line, &mut room).is_ok())
 }
 
-/// Reads the lines after a boot as those of users.
+/// Reads the lines after a boot as lines of users.
 fn vouch_users(alloc: Global, threads: u32, lines: &[String]) -> Result<(), CompileFault> {
     for line in lines {
         if !is_user(alloc, threads, line.as_bytes())? {
@@ -82,7 +82,7 @@ fn vouch_users(alloc: Global, threads: u32, lines: &[String]) -> Result<(), Comp
     Ok(())
 }
 
-/// The script of a plan, with what of its text was read back.
+/// Returns the script of a plan, with what of its text was read back.
 fn read_back(alloc: Global, script: Script) -> Result<Compiled, CompileFault>
     requires { HasBootOfPlan script }
     ensures { IfOk result (λ c. IsVouched c.read.items c.script.laid) }
@@ -100,11 +100,11 @@ fn read_back(alloc: Global, script: Script) -> Result<Compiled, CompileFault>
     })
 }
 
-/// The script of a plan (own), which was read back: what was read of its text is a script of steps
-/// without a fault, whose boot is that of the plan, and after this each name of each thread leads
-/// to what its slot holds. Of a plan of users that is the boot, and each line after it was read as
-/// that of a user. Fault Plan tells the first line of the plan that is refused; Script, Boot,
-/// OtherBoot, Astray and User come only where this program is wrong.
+/// Compiles a plan (own), and reads the result back: the text is a script of steps without a fault,
+/// its boot is the plan's, and after the boot each name of each thread leads to what its slot
+/// holds. Of a plan of users this holds of the boot, and each line after it is read as a line of a
+/// user. Fault `Plan` names the first refused line of the plan; Script, Boot, OtherBoot, Astray and
+/// User come only from a fault of this program.
 pub fn compile_text(alloc: Global, plan: &[u8]) -> Result<Compiled, CompileFault>
     ensures { IfOk result (λ c. IsVouched c.read.items c.script.laid) }
 {

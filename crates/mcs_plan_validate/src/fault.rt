@@ -1,27 +1,27 @@
-//! Why no script comes of a plan.
+//! Why a plan does not compile.
 use mcs_plan_source::PlanFault;
 use mcs_sim::SimFault;
 use mcs_types::{BootFault, OutOfMemory};
 use std::alloc::AllocError;
 use thiserror::Error;
 
-/// Why no script comes of a plan. Only the first and the last are the plan's fault or the
-/// machine's: the others say that this program is wrong.
+/// Why a plan does not compile. Only the first and the last are faults of the plan or the machine;
+/// the others are faults of this program.
 #[derive(Debug, Drop, Error)]
 pub enum CompileFault {
     /// A line of the plan is refused.
     #[error("{0}")]
     Plan(PlanFault),
-    /// The script that the plan became has a fault.
+    /// The script of the plan has a fault.
     #[error("the script that this plan becomes has a fault: {0}")]
     Script(SimFault),
-    /// Its boot has one.
+    /// The boot of the script has a fault.
     #[error("the boot that this plan becomes has a fault: {0}")]
     Boot(BootFault),
-    /// Its boot is not that of the plan.
+    /// The boot of the script differs from the plan's.
     #[error("the boot that this plan becomes is not the plan's")]
     OtherBoot,
-    /// A name does not lead to what it stands for.
+    /// A name does not lead to what it means.
     #[error("\"{0}\" does not lead to its capability")]
     Astray(String),
     /// A line is not that of a user.

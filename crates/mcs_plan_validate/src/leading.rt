@@ -1,4 +1,4 @@
-//! Whether names lead to what they stand for.
+//! Checks that names lead to what they mean.
 ghost use Rattle.std.specs.Prelude.{◌≡◌, ◌↔◌, ◌<◌, IsTrue, true, IfNone, All, Ok, Some, length};
 ghost use Rattle.mcs_book.specs.History.{log_of};
 ghost use Rattle.mcs_state.specs.Questions.{named_for};
@@ -9,14 +9,14 @@ use mcs_plan_layout::Named;
 use mcs_queues::Lines;
 use mcs_types::{Cap, Kind, ObjId};
 
-/// Whether two capabilities are the same.
+/// Returns whether two capabilities are the same.
 fn is_same_cap(one: &Cap, other: &Cap) -> bool
     ensures { IsTrue result ↔ (one.now ≡ other.now) }
 {
     *one == *other
 }
 
-/// Whether two slots hold the same.
+/// Returns whether two slots hold the same.
 fn is_held(held: Option<Cap>, wanted: &Option<Cap>) -> bool
     ensures { result ≡ true → held ≡ wanted.now }
 {
@@ -27,7 +27,7 @@ fn is_held(held: Option<Cap>, wanted: &Option<Cap>) -> bool
     }
 }
 
-/// Returns whether an address names a capability. Where it is true, it does; false claims nothing.
+/// Returns whether an address names a capability. True proves it; false claims nothing.
 fn names<L: Lines>(kernel: &Kernel<L>, thread: ObjId, address: u64, cap: &Cap) -> bool
     ensures { result ≡ true → named_for (log_of kernel.now) thread address ≡ Some (Ok cap.now) }
 {
@@ -37,8 +37,8 @@ fn names<L: Lines>(kernel: &Kernel<L>, thread: ObjId, address: u64, cap: &Cap) -
     }
 }
 
-/// Returns whether an address names what a slot holds, unless that is nothing, and what has none is
-/// a capability to a CNode. Where it is true, both are so; false claims nothing.
+/// Returns whether an address names what a slot holds, unless the slot is empty; a name without an
+/// address has to be one of a CNode. True proves it; false claims nothing.
 fn is_named<L: Lines>(
     kernel: &Kernel<L>,
     thread: ObjId,
@@ -56,7 +56,7 @@ fn is_named<L: Lines>(
 }
 
 /// Returns whether a name of a thread leads to what it means: its place names a slot that holds
-/// this, and its address names this too. Where it is true, both are so; false claims nothing.
+/// this, and so does its address. True proves it; false claims nothing.
 fn leads<L: Lines>(kernel: &Kernel<L>, thread: ObjId, named: &Named) -> bool
     ensures { result ≡ true → Leads (log_of kernel.now) thread named.now }
 {
@@ -69,7 +69,7 @@ fn leads<L: Lines>(kernel: &Kernel<L>, thread: ObjId, named: &Named) -> bool
     false
 }
 
-/// The first name of a thread that does not lead to what its slot holds.
+/// Returns the first name of a thread that does not lead to what its slot holds.
 fn first_astray<'a, L: Lines>(
     kernel: &Kernel<L>,
     thread: ObjId,

@@ -1,8 +1,8 @@
-//! What a plan becomes, read back: a script without a fault, with the plan's boot, in which each
-//! name leads to what it stands for.
+//! Reads the script of a plan back: it has no fault, its boot is the plan's, and each name leads to
+//! what it means.
 //!
 //! ```text
-//! plan with domains ── mcs_plan_domains ──> plan; loaded: of which line each line came
+//! plan with domains ── mcs_plan_domains ──> plan; loaded: the original line for each line
 //! plan ── mcs_plan_compile ──> Script ── text ── reading ──> the book that the text makes
 //!                            │                            │ its boot, alone in a kernel
 //!                            └─ names ────── leading ─────┘ each place and address is looked up

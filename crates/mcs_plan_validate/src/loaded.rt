@@ -1,5 +1,5 @@
-//! The script of a plan, with or without protection domains, and of which line each of its lines
-//! came.
+//! The script of a plan, with or without protection domains, and the plan's line for each of its
+//! lines.
 ghost use Rattle.std.specs.Prelude.{IfOk};
 ghost use Rattle.mcs_plan_validate.specs.Reading.{IsVouched};
 
@@ -10,14 +10,15 @@ use mcs_plan_domains::{Lowered, lower};
 use mcs_plan_source::{PlanFault, Why};
 use std::alloc::{AllocError, Global};
 
-/// The script of a plan, and for each of its lines the number of the plan's line of which it came.
+/// The script of a plan, and for each of its lines the number of the plan's line from which it
+/// came.
 #[derive(Drop)]
 pub struct Loaded {
     pub compiled: Compiled,
     pub numbers: Vec<u64>,
 }
 
-/// Returns a plan without protection domains, if a plan has some.
+/// Returns a plan with its protection domains and passive threads lowered, if it has any.
 fn lowered_of(alloc: Global, plan: &[u8]) -> Result<Option<Lowered>, PlanFault> {
     match std::str::from_utf8(plan) {
         Ok(text) => lower(alloc, text),
@@ -25,13 +26,13 @@ fn lowered_of(alloc: Global, plan: &[u8]) -> Result<Option<Lowered>, PlanFault> 
     }
 }
 
-/// Returns the number of which a line came, where these are those of all lines.
+/// Returns the number for a line, if these are the numbers of all lines.
 fn line_in(lines: &[u64], line: u64) -> u64 {
     let place = line.saturating_sub(1) as usize;
     lines.get(place).copied().unwrap_or(line)
 }
 
-/// Returns a fault of a plan, in the lines of which its lines came.
+/// Returns a fault of a lowered plan with the line of the original plan.
 fn in_lines(fault: CompileFault, lines: &[u64]) -> CompileFault {
     match fault {
         CompileFault::Plan(PlanFault { line, why }) => {
@@ -48,7 +49,7 @@ fn in_lines(fault: CompileFault, lines: &[u64]) -> CompileFault {
     }
 }
 
-/// Returns the numbers of lines, in the lines of which these came.
+/// Returns line numbers of a lowered plan as numbers of the original plan.
 fn all_in_lines(alloc: Global, numbers: &[u64], lines: &[u64]) -> Result<Vec<u64>, AllocError> {
     let mut all = Vec::new(alloc);
     for number in numbers {
@@ -66,7 +67,7 @@ fn compile_plain(alloc: Global, plan: &[u8]) -> Result<Loaded, CompileFault>
     Ok(Loaded { compiled, numbers })
 }
 
-/// Compiles a plan whose domains are lowered.
+/// Compiles a plan after lowering.
 fn compile_lowered(alloc: Global, lowered: &Lowered) -> Result<Loaded, CompileFault>
     ensures { IfOk result (λ l. IsVouched l.compiled.read.items l.compiled.script.laid) }
 {
@@ -79,9 +80,9 @@ fn compile_lowered(alloc: Global, lowered: &Lowered) -> Result<Loaded, CompileFa
     }
 }
 
-/// Returns the script of a plan, which may have protection domains, and of which line of the plan
-/// each of its lines came. The faults are those of `lower` and of `compile_text`, each in its line
-/// of the plan.
+/// Returns the script of a plan, which may have protection domains, and for each of its lines the
+/// plan's line from which it came. The faults are those of `lower` and of `compile_text`, each at
+/// its line of the plan.
 pub fn load(alloc: Global, plan: &[u8]) -> Result<Loaded, CompileFault>
     ensures { IfOk result (λ l. IsVouched l.compiled.read.items l.compiled.script.laid) }
 {

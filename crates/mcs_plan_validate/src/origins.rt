@@ -1,16 +1,16 @@
-//! Of which line of a plan each line of its script came.
+//! The plan's line for each line of its script.
 use crate::compiled::Compiled;
 use mcs_plan_compile::Script;
 use mcs_plan_source::{split_comment, split_words};
 use std::alloc::{AllocError, Global};
 
-/// The numbers of the plan's lines of which the lines of a script came, so far.
+/// The plan's lines from which the lines of a script came, so far.
 #[derive(Drop)]
 struct Origins {
     all: Vec<u64>,
     /// How many lines the plan has before its first step.
     before: u64,
-    /// The blocks that are open in a program, where one is.
+    /// How many blocks are open in the current program, if there is one.
     blocks: Option<usize>,
 }
 
@@ -29,27 +29,27 @@ fn begins_program(code: &str, words: &[&str]) -> bool {
     code.split_once(": ").is_none() && words.first().is_some_and(|word| *word == "program")
 }
 
-/// Returns whether a line is the first of the steps: it has `: ` in it, or `?` at its beginning, or
-/// begins a program.
+/// Returns whether a line is the first of the steps: it has `: ` in it, begins with `?`, or begins
+/// a program.
 fn begins_steps(code: &str, words: &[&str]) -> bool {
     code.split_once(": ").is_some()
         || words.first().is_some_and(|word| word.starts_with("?"))
         || begins_program(code, words)
 }
 
-/// Returns the number of a line after so many others.
+/// Returns the number of a line after `before` others.
 fn number_after(before: usize) -> u64 {
     (before as u64).saturating_add(1)
 }
 
 impl Origins {
-    /// Adds a line of the script that came of this line of the plan.
+    /// Adds a line of the script that came from this line of the plan.
     fn add(&mut self, number: u64) -> Result<(), AllocError> {
         self.all.push(number)?;
         Ok(())
     }
 
-    /// Adds so many lines that came of this one.
+    /// Adds `count` lines that came from this one.
     fn add_many(&mut self, number: u64, count: usize) -> Result<(), AllocError> {
         for _ in 0..count {
             self.add(number)?;
@@ -57,8 +57,8 @@ impl Origins {
         Ok(())
     }
 
-    /// Takes a line before the first step: a comment alone goes to the front, where there are so
-    /// many. Returns whether it is the first of the steps, and came too far.
+    /// Takes a line before the first step; a line of only a comment adds one to the front, which
+    /// has this many. Returns whether the line is the first of the steps.
     fn take_before(
         &mut self,
         alloc: Global,
@@ -93,14 +93,14 @@ impl Origins {
         Ok(())
     }
 
-    /// Adds the names and the boot: they came of all lines before the first step.
+    /// Adds the names and the boot, which come from the last line before the first step.
     fn add_boot(&mut self, script: &Script) -> Result<(), AllocError> {
         let names = script.laid.plan.names.len();
         let count = names.saturating_add(script.boot.len()).saturating_add(1);
         self.add_many(self.before.max(1), count)
     }
 
-    /// Adds the steps that make threads passive, and the one by which the thread that did so ends.
+    /// Adds the steps that make threads passive, and the last step of the starter.
     fn add_openings(&mut self, script: &Script) -> Result<(), AllocError> {
         let passives = &script.laid.plan.passives;
         for passive in passives {
@@ -112,7 +112,7 @@ impl Origins {
         }
     }
 
-    /// Takes the words of a line inside of a program, with so many open blocks.
+    /// Takes the words of a line inside of a program, with this many open blocks.
     fn take_statement(
         &mut self,
         number: u64,
@@ -134,8 +134,8 @@ impl Origins {
         self.add(number)
     }
 
-    /// Takes the words of a line from the first step on: the first and the last line of a program
-    /// have none in the script.
+    /// Takes the words of a line from the first step on. The first and the last line of a program
+    /// have no line in the script.
     fn take_words(&mut self, number: u64, code: &str, words: &[&str]) -> Result<(), AllocError> {
         if let Some(blocks) = self.blocks {
             return self.take_statement(number, words, blocks);
@@ -147,7 +147,7 @@ impl Origins {
         self.add(number)
     }
 
-    /// Takes a line from the first step on: its comment stands before what it says.
+    /// Takes a line from the first step on; its comment precedes it in the script.
     fn take_step(&mut self, alloc: Global, number: u64, line: &str) -> Result<(), AllocError> {
         let (code, comment) = split_comment(line);
         if comment.is_some() {
@@ -173,7 +173,7 @@ impl Origins {
     }
 }
 
-/// Returns the lines of a plan; none where it is no text, and so became no script.
+/// Returns the lines of a plan; none if it is no text.
 fn lines_of<'a>(alloc: Global, plan: &'a [u8]) -> Result<Vec<&'a str>, AllocError> {
     match std::str::from_utf8(plan) {
         Ok(text) => text.lines().collect(alloc),
@@ -181,8 +181,8 @@ fn lines_of<'a>(alloc: Global, plan: &'a [u8]) -> Result<Vec<&'a str>, AllocErro
     }
 }
 
-/// Returns for each line of the script of a plan the number of the plan's line of which it came:
-/// for the boot, the last one before the first step.
+/// Returns for each line of the script of a plan the plan's line from which it came: for the boot,
+/// the last one before the first step.
 pub fn origins_of(alloc: Global, plan: &[u8], compiled: &Compiled) -> Result<Vec<u64>, AllocError> {
     let script = &compiled.script;
     let lines = lines_of(alloc, plan)?;

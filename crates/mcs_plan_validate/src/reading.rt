@@ -9,7 +9,7 @@ use mcs_sim::{ReplayRun, SimFault};
 use mcs_types::{BootFault, BootLine, OutOfMemory};
 use std::alloc::Global;
 
-/// A script of steps that was taken to its end. The first of its faults, if it has one.
+/// Replays a script of steps to its end. Fails with the first of its faults.
 pub fn take_script(alloc: Global, text: &[u8]) -> Result<ReplayRun, SimFault>
     ensures { IfOk result (λ r. IsScriptOf text.now r.course.stands.book) }
 {
@@ -22,7 +22,7 @@ pub fn take_script(alloc: Global, text: &[u8]) -> Result<ReplayRun, SimFault>
     Ok(run)
 }
 
-/// The boot of a book, made again.
+/// Returns the boot of a book, made anew.
 fn boot_again(alloc: Global, book: &Book) -> Result<Boot, BootFault>
     ensures { IfOk result (λ b. b ≡ book.now.book.boot) }
 {
@@ -44,14 +44,14 @@ pub fn booted(alloc: Global, book: &Book) -> Result<Kernel<LinkedLines>, BootFau
     }
 }
 
-/// Whether two lines of a boot are the same.
+/// Returns whether two lines of a boot are the same.
 fn is_same_line(one: &BootLine, other: &BootLine) -> bool
     ensures { IsTrue result ↔ (one.now ≡ other.now) }
 {
     *one == *other
 }
 
-/// Whether two boots have the same lines.
+/// Returns whether two boots have the same lines.
 pub fn are_same_lines(one: &[BootLine], other: &[BootLine]) -> bool
     ensures { IsTrue result ↔ (one.now ≡ other.now) }
 {

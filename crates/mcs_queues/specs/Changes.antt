@@ -33,7 +33,7 @@ LeavesPlace old new t = (u : ℕ) → new u ≡ cond (t == u) None (old u)
 abbrev pub ShiftsLine : (ℕ → List Waiter) → (ℕ → List Waiter) → (ℕ → Option ℕ) → Waiter → Type 0
 ShiftsLine old new place w = (k : ℕ) → new k ≡ cond (is_place (place w.thread) k) (insert_behind w (without w.thread (old k))) (old k)
 
--- it is there after all of its priority and ahead of all lower ones
+-- a waiter is in the line after all of its priority and ahead of all lower ones
 abbrev pub IsPutAnew : (ℕ → List Waiter) → (ℕ → List Waiter) → (ℕ → Option ℕ) → Waiter → Type 0
 IsPutAnew old new place w = (k : ℕ) → place w.thread ≡ Some k → IsPut w (without w.thread (old k)) (new k)
 

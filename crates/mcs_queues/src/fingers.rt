@@ -1,4 +1,4 @@
-//! Where the traversal of a line may begin.
+//! Fingers: where the traversal of a line may begin.
 ghost use Rattle.std.specs.Prelude.{◌≡◌, ◌≢◌, ◌<◌, length, slice_index_or, IfOk, IfSome, Some, None, is_none, cond, not, ◌==◌};
 ghost use Rattle.mcs_queues.specs.Fingers.{Points, IsReleased, IsLower, SameFingers, finger, row_of, no_fingers, blank_rows};
 
@@ -10,7 +10,7 @@ use std::marker::Model;
 /// How many priorities there are.
 const PRIORITIES: usize = 256;
 
-/// How many words have a bit for each priority.
+/// How many 64-bit words hold a bit for each priority.
 const WORDS: usize = PRIORITIES / 64;
 
 /// The fingers of a line, and a bit for each priority that has one.
@@ -21,7 +21,7 @@ pub struct LineFingers {
 }
 
 impl LineFingers {
-    /// No finger.
+    /// Returns the fingers of a line that has none.
     fn none() -> LineFingers
         ensures { result ≡ no_fingers }
     {
@@ -31,8 +31,8 @@ impl LineFingers {
         }
     }
 
-    /// The nearest priority below another that has a finger, or any other where none has. No clause
-    /// says so: what is found there is compared.
+    /// Returns the nearest priority below another that has a finger, or any priority if none has.
+    /// No clause says so: the caller compares what it finds there.
     fn known_below(&self, p: Prio) -> u8 {
         let mut word = p.0 / 64;
         let mut bits = self.known[word as usize] & ((1 << (p.0 % 64)) - 1);
@@ -44,12 +44,10 @@ impl LineFingers {
     }
 }
 
-/// For each line and each priority a finger: a thread that is in the line with that priority (own).
-/// The first that joins while there is none becomes it, so most often no other of its priority is
-/// ahead of it.
-///
-/// Lines without fingers share the first row, in which there are none: no memory is written for a
-/// line before it has a finger.
+/// For each line and each priority a finger: a thread in the line with that priority (own). The
+/// first thread that joins while there is none becomes it, so usually no other of its priority is
+/// ahead of it. Lines without fingers share the first row, which has none: a line uses no memory
+/// before it has a finger.
 #[derive(Drop)]
 pub struct Fingers {
     rows: Vec<LineFingers>,
@@ -69,7 +67,7 @@ impl Model for Fingers {
 }
 
 impl Fingers {
-    /// That many lines, with no finger.
+    /// Returns rows for this many lines, without fingers.
     pub fn new(alloc: Global, lines: u16) -> Result<Fingers, OutOfMemory>
         ensures { IfOk result (λ f. f ≡ blank_rows lines) }
     {
@@ -79,7 +77,7 @@ impl Fingers {
         Ok(Fingers { rows, places })
     }
 
-    /// Clones the fingers in the memory of spare ones. OutOfMemory where memory is refused.
+    /// Clones the fingers in the memory of spare ones. `OutOfMemory` if an allocation fails.
     pub fn copy(&self, alloc: Global, spare: Option<Fingers>) -> Result<Fingers, OutOfMemory>
         ensures { IfOk result (λ f. f ≡ self.now) }
     {
@@ -92,7 +90,7 @@ impl Fingers {
         Ok(Fingers { rows, places })
     }
 
-    /// The fingers of a line.
+    /// Returns the fingers of a line.
     fn row(&self, q: LineNo) -> &LineFingers
         requires { q.0 < length self.now.places }
         ensures row { result.now ≡ row_of self.now q.0 }
@@ -101,7 +99,7 @@ impl Fingers {
         &self.rows[self.places[q.0 as usize] as usize]
     }
 
-    /// Whether a line has a row of its own.
+    /// Returns whether a line has a row of its own.
     fn has_row(&self, q: LineNo) -> bool
         requires { q.0 < length self.now.places }
         ensures { result ≡ not (slice_index_or self.now.places q.0 0 == 0) }
@@ -119,7 +117,7 @@ impl Fingers {
         row.threads[p.0 as usize]
     }
 
-    /// The finger of the nearest priority below another, where there is one.
+    /// Returns the finger of the nearest priority below another, if there is one.
     pub fn below(&self, q: LineNo, p: Prio) -> Option<ThreadNo>
         requires { q.0 < length self.now.places }
         ensures { IfSome result (IsLower self.now q.0 p.0) }
@@ -131,7 +129,7 @@ impl Fingers {
         self.at(q, Prio(found))
     }
 
-    /// Gives a line a row of its own, where it has none.
+    /// Gives a line a row of its own, if it has none.
     fn open(&mut self, q: LineNo)
         requires { q.0 < length self.old.places }
         ensures own { slice_index_or self.new.places q.0 0 ≢ 0 }
@@ -144,8 +142,7 @@ impl Fingers {
         }
     }
 
-    /// Points the finger of a priority at a thread, or at none, in a line that has a row of its
-    /// own.
+    /// Sets or clears the finger of a priority in a line, which must have a row of its own.
     fn point(&mut self, q: LineNo, p: Prio, to: Option<ThreadNo>)
         requires line { q.0 < length self.old.places }
         requires own { slice_index_or self.old.places q.0 0 ≢ 0 }
@@ -162,7 +159,7 @@ impl Fingers {
         };
     }
 
-    /// Makes a thread the finger of its priority, if that has none. Returns whether it became that.
+    /// Makes a thread the finger of its priority, unless there is one. Returns whether it did.
     pub fn claim(&mut self, q: LineNo, p: Prio, t: ThreadNo) -> bool
         requires { q.0 < length self.old.places }
         ensures answer { result ≡ is_none (finger self.old q.0 p.0) }
@@ -172,7 +169,7 @@ impl Fingers {
     {
         let here = self.at(q, p);
         self.open(q);
-        // Written in either case: which it is cannot be foreseen, and a wrong guess costs more than
+        // Written in either case: the branch is unpredictable, and a misprediction costs more than
         // a write.
         let to = match here {
             Some(u) => u,
@@ -182,7 +179,7 @@ impl Fingers {
         here.is_none()
     }
 
-    /// Takes the finger of a priority from a thread, if it points there.
+    /// Clears the finger of a priority, if it is this thread.
     pub fn release(&mut self, q: LineNo, p: Prio, t: ThreadNo)
         requires { q.0 < length self.old.places }
         ensures released { IsReleased self.old self.new q.0 p.0 t }

@@ -1,4 +1,4 @@
-//! Lines in which threads wait, by priority and within one priority by when they came.
+//! Queues of threads, called lines: by priority, and FIFO within one priority.
 #![tactic(auto)]
 
 mod fingers;

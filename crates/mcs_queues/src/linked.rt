@@ -1,4 +1,4 @@
-//! Lines as links between slots.
+//! Lines as doubly linked lists of slots.
 ghost use Rattle.std.specs.Prelude.{IfOk, cond, ◌≡◌, ℕ, ◌+◌, ◌-◌, ◌<◌, ◌≤◌, true, Some, None, is_some, length, IfSome};
 ghost use Rattle.mcs_types.specs.Waiters.{without, lower, first_waiter, behind_in, NeverRises, IsPut};
 ghost use Rattle.mcs_queues.specs.Changes.{waiter, may_join, JoinsLine, JoinsPlace, LeavesPlace, ShiftsLine, IsPutAnew, StandsAtPlace};
@@ -24,7 +24,7 @@ pub struct LinkedLines {
     fingers: Fingers,
 }
 
-// By hand, so that it is a function of its own: a derived drop would be proved anew wherever it is
+// Written by hand as a separate function: a derived drop would be proved again wherever it is
 // dropped.
 impl Drop for LinkedLines {
     fn drop(self) {
@@ -48,7 +48,7 @@ impl Model for LinkedLines {
         × Pointed s.fingers s.slots };
 }
 
-/// Finds where a traversal to a priority begins: ahead of a finger of a lower one, or at the line's
+/// Finds where a traversal to a priority begins: at a finger of a lower priority, or at the line's
 /// end. Returns the thread to visit next, and the one after it.
 fn begin<G: Ledger>(
     slots: &LinkSlots,
@@ -100,9 +100,9 @@ fn seek<G: Ledger>(
     (before, after)
 }
 
-/// Writes a thread's slot and the links to it: `links.0` is next to the thread `around.0`, and
-/// `links.1` previous to `around.1`. Where `around.0` is None, `links.0` is the first of the line;
-/// where `around.1` is None, `links.1` is its last.
+/// Writes a thread's slot, and the links to it: `links.0` becomes the next thread of `around.0`,
+/// and `links.1` the previous one of `around.1`. If `around.0` is None, `links.0` becomes the first
+/// of the line; if `around.1` is None, `links.1` becomes its last.
 fn relink(
     slots: &mut LinkSlots,
     q: LineNo,
@@ -158,8 +158,8 @@ fn leave(slots: &mut LinkSlots, fingers: &mut Fingers, t: ThreadNo) -> Option<Li
     Some(q)
 }
 
-/// Makes a thread the finger of its priority, if that has none. Returns whether it became that. A
-/// thread that is alone needs none, so a line that never has two takes no memory for fingers.
+/// Makes a thread the finger of its priority, unless there is one. Returns whether it did. A thread
+/// that is alone needs none, so a line that never has two uses no memory for fingers.
 fn offer(
     fingers: &mut Fingers,
     q: LineNo,
@@ -178,7 +178,7 @@ fn offer(
     fingers.claim(q, p, t)
 }
 
-/// Puts a thread that is in no line after all of its priority.
+/// Queues a thread that is in no line after all of its priority.
 fn enter<G: Ledger>(
     slots: &mut LinkSlots,
     fingers: &mut Fingers,
@@ -251,7 +251,7 @@ fn line_of(slots: &LinkSlots, t: ThreadNo) -> Option<LineNo>
     slots.named(t).line
 }
 
-/// Whether a thread may join a line.
+/// Returns whether a thread may join a line.
 fn may_enter(slots: &LinkSlots, t: ThreadNo, q: LineNo) -> bool
     ensures { result ≡ may_join (rooms_of slots.now) (stands_at slots.now) t.0 q.0 }
 {
@@ -291,7 +291,7 @@ impl LinkedLines {
         may
     }
 
-    /// Does what `shift` does, and counts its visits: none where the thread is in no line, else at
+    /// Does what `shift` does, and counts its visits: none if the thread is in no line, else at
     /// most one more than its line has other threads of a lower priority (own).
     pub fn shift_counted<G: Ledger>(&mut self, t: ThreadNo, p: Prio, steps: &mut Steps<G>) -> bool
         ensures answer { result ≡ is_some (stands_at self.old t.0) }
@@ -315,7 +315,7 @@ impl LinkedLines {
     }
 }
 
-/// Does what `join` does, with a count of visits of its own.
+/// Does what `join` does, with its own count of visits.
 fn join_alone<G: Ledger>(
     lines: &mut LinkedLines,
     t: ThreadNo,
@@ -337,7 +337,7 @@ fn join_alone<G: Ledger>(
     lines.join_counted(t, q, p, &mut steps)
 }
 
-/// Does what `shift` does, with a count of visits of its own.
+/// Does what `shift` does, with its own count of visits.
 fn shift_alone<G: Ledger>(lines: &mut LinkedLines, t: ThreadNo, p: Prio, blank: Blank) -> bool
     requires name { blank.name ≡ G.name }
     requires parts { blank.parts ≡ G.parts }
@@ -400,8 +400,8 @@ impl Lines for LinkedLines {
         next_in(&self.slots, t)
     }
 
-    /// Does what the trait says. It changes at most four links, and at most one finger, which then
-    /// points nowhere (own).
+    /// Does what the trait says. It changes at most four links and at most one finger, which is
+    /// cleared (own).
     fn part(&mut self, t: ThreadNo) -> Option<LineNo>
         ensures answer { line_number result ≡ stands_at self.old t.0 }
         ensures line { (k : ℕ) → spelled self.new k ≡ without t.0 (spelled self.old k) }

@@ -8,7 +8,7 @@ use mcs_types::{OutOfMemory, Prio, copy_rows};
 use std::alloc::Global;
 use std::marker::Model;
 
-/// A thread in its line. The priority takes four bytes, so that a row takes eight and moves as one
+/// A thread in its line. The priority takes four bytes, so that a row has eight and moves as one
 /// word.
 #[derive(Clone, Copy)]
 struct Row {
@@ -19,16 +19,16 @@ struct Row {
 
 const _: () = prove!(size_of::<Row>() == 8);
 
-/// All lines in one list of rows: a row for each thread that is in a line, and the rows of a line
-/// in that line's order. One list, so that nothing in it can disagree and its text is short enough
-/// to read; each call traverses it for that. `new` takes room for a row of every thread.
+/// All lines in one list of rows: a row for each queued thread, and the rows of a line in the
+/// line's order. With a single list nothing can be inconsistent, and the code is short enough to
+/// read; in exchange each call traverses it. `new` allocates a row for every thread.
 pub struct PlainLines {
     rows: Vec<Row>,
     threads: u16,
     lines: u16,
 }
 
-// By hand, so that it is a function of its own: a derived drop would be proved anew wherever it is
+// Written by hand as a separate function: a derived drop would be proved again wherever it is
 // dropped.
 impl Drop for PlainLines {
     fn drop(self) {
@@ -54,14 +54,14 @@ impl Model for PlainLines {
         × ((k : ℕ) → NeverRises (line_in s.rows.items k)) };
 }
 
-/// Returns the index of a thread's row; None where it has none.
+/// Returns the index of a thread's row; None if it has none.
 fn row_of(rows: &[Row], t: ThreadNo) -> Option<usize>
     ensures { result ≡ position (is_of t.0) rows.now }
 {
     rows.iter().position(|row| row.thread.0 == t.0)
 }
 
-/// Where the first row of a lower priority is in a line.
+/// Returns the index of the first row of a lower priority in a line.
 fn first_lower(rows: &[Row], q: LineNo, p: u32) -> Option<usize>
     ensures { result ≡ position (is_lower q.0 p) rows.now }
 {
@@ -81,14 +81,14 @@ fn line_of(rows: &[Row], t: ThreadNo) -> Option<LineNo>
     None
 }
 
-/// Whether a thread may join a line.
+/// Returns whether a thread may join a line.
 fn may_enter(rows: &[Row], threads: u16, lines: u16, t: ThreadNo, q: LineNo) -> bool
     ensures { result ≡ (nat_lt t.0 threads && nat_lt q.0 lines && is_none (place_in rows.now t.0)) }
 {
     t.0 < threads && q.0 < lines && line_of(rows, t).is_none()
 }
 
-/// Puts a row after all of its line with its priority or a greater one. There is room for it.
+/// Inserts a row after all of its line with its priority or a greater one; there must be room.
 fn enter(rows: &mut Vec<Row>, row: Row)
     requires { vec_len rows.old < vec_capacity rows.old }
     ensures items { rows.new.items ≡ enters row rows.old.items }
@@ -101,7 +101,7 @@ fn enter(rows: &mut Vec<Row>, row: Row)
     }
 }
 
-/// Takes out the row of a thread, and gives its line.
+/// Removes the row of a thread, and returns its line.
 fn leave(rows: &mut Vec<Row>, t: ThreadNo) -> Option<LineNo>
     ensures items { rows.new.items ≡ leaves t.0 rows.old.items }
     ensures capacity { vec_capacity rows.new ≡ vec_capacity rows.old }

@@ -8,7 +8,7 @@ use std::alloc::Global;
 use std::marker::Model;
 use std::sync::ledger::{Blank, Book, Ledger, Share};
 
-/// Where a thread is, and its neighbours there.
+/// The line that a thread is in, and its neighbours there.
 #[derive(Clone, Copy)]
 pub struct ThreadSlot {
     pub line: Option<LineNo>,
@@ -24,7 +24,7 @@ pub struct LineSlot {
     pub last: Option<ThreadNo>,
 }
 
-/// How many slots of threads other than the one that a call names were read. It takes no bytes at
+/// Counts the reads of slots of threads other than the one that a call names. It takes no bytes at
 /// run time, and only `LinkSlots::visit` adds to it (own).
 #[derive(Drop)]
 pub struct Steps<G: Ledger> {
@@ -43,7 +43,7 @@ impl<G: Ledger> Model for Steps<G> {
 }
 
 impl<G: Ledger> Steps<G> {
-    /// No visits so far.
+    /// Returns a count of no visits.
     pub fn new(blank: Blank) -> Steps<G>
         requires name { blank.name ≡ G.name }
         requires parts { blank.parts ≡ G.parts }
@@ -98,7 +98,7 @@ impl LinkSlots {
         })
     }
 
-    /// Clones the slots in the memory of spare ones. OutOfMemory where memory is refused.
+    /// Clones the slots in the memory of spare ones. `OutOfMemory` if an allocation fails.
     pub fn copy(&self, alloc: Global, spare: Option<LinkSlots>) -> Result<LinkSlots, OutOfMemory>
         ensures { IfOk result (λ s. s ≡ self.now) }
     {
@@ -112,14 +112,14 @@ impl LinkSlots {
         })
     }
 
-    /// How many threads have slots.
+    /// Returns how many threads have slots.
     pub fn threads(&self) -> usize
         ensures { result ≡ length self.now.threads }
     {
         self.threads.len()
     }
 
-    /// How many lines have slots.
+    /// Returns how many lines have slots.
     pub fn lines(&self) -> usize
         ensures { result ≡ length self.now.lines }
     {
@@ -160,8 +160,7 @@ impl LinkSlots {
         self.threads[t.0 as usize] = slot;
     }
 
-    /// Sets what is next to a thread in its line, or the first of the line where there is no
-    /// thread.
+    /// Sets the thread after another in its line, or the line's first if there is no thread before.
     pub fn set_next(&mut self, q: LineNo, before: Option<ThreadNo>, next: Option<ThreadNo>)
         requires line { q.0 < length self.old.lines }
         requires thread { IfSome before (λ b. b.0 < length self.old.threads) }
@@ -179,8 +178,7 @@ impl LinkSlots {
         }
     }
 
-    /// Sets what is previous to a thread in its line, or the last of the line where there is no
-    /// thread.
+    /// Sets the thread before another in its line, or the line's last if there is no thread after.
     pub fn set_previous(&mut self, q: LineNo, after: Option<ThreadNo>, previous: Option<ThreadNo>)
         requires line { q.0 < length self.old.lines }
         requires thread { IfSome after (λ a. a.0 < length self.old.threads) }

@@ -45,7 +45,7 @@ same-sym a b = go (same a b) (same b a) refl refl
     go true false e f = sym (same-self a) ∙ ap (λ (z : ObjId). same z a) (same-equal a b e) ∙ f
     go false true e f = sym e ∙ ap (λ (z : ObjId). same z b) (sym (same-equal b a f)) ∙ same-self b
 
--- who owes is another than who owes nobody
+-- who owes is another than who owes no thread
 pub owes-other : (rows : Objects ReplyRow) (q r : ObjId) → IsSome (owed_at rows q) → owed_at rows r ≡ None → same q r ≡ false
 owes-other rows q r some none = none-true (same q r) (λ e. sym some ∙ ap (λ (z : ObjId). is_some (owed_at rows z)) (same-equal q r e) ∙ ap (λ (o : Option ObjId). is_some o) none)
 
@@ -55,7 +55,7 @@ Owners rows ls = (u : ℕ) (r : ObjId) → reply_in ls u ≡ Some r → place_at
 abbrev Owes : Objects ReplyRow → List (Option Link) → Type 0
 Owes rows ls = (u : ℕ) (r : ObjId) → reply_in ls u ≡ Some r → IsSome (owed_at rows r)
 
--- a reply object that owes nobody is linked nowhere
+-- a reply object that owes no thread is linked nowhere
 pub free-out : (rows : Objects ReplyRow) (ls : List (Option Link)) (r : ObjId) → Owes rows ls → owed_at rows r ≡ None → (u : ℕ) → reply_in ls u ≢ Some r
 free-out rows ls r owes none u h = false≢true (sym (ap (λ (o : Option ObjId). is_some o) none) ∙ owes u r h)
 
@@ -76,7 +76,7 @@ ended-absent how r ls ts sound out s =
     let there = some-with s (link_at ls u) (sym ((sound.linked s).stands u) ∙ h) in
     absurd (out u (some-reply (link_at ls u) there ∙ ap Some (same-equal (reply_of (link_at ls u)) r e)))))
 
--- where a reply object owes nobody, the end of its debt changes no chain
+-- where a reply object owes no thread, the end of its debt changes no chain
 pub unowed-ends : (v : Owing) (how : Ending) (r : ObjId) → IsOwing v → owed_in v r ≡ None → EndsDebt v v how r
 unowed-ends v how r all free s = sym (ended-absent how r v.links v.tops all.sound (free-out v.rows v.links r all.owing free) s)
 

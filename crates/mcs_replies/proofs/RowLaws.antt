@@ -30,7 +30,7 @@ field_stays f s id x was r there same_field = ap (option_and_then f) (value-writ
     go true e = let at = same-equal x id e in rw (at, there) (sym same_field)
     go false e = refl
 
--- what has no place owes nobody
+-- what has no place owes no thread
 pub no-place : (s : Objects ReplyRow) (id : ObjId) → place_at s id ≡ None → owed_at s id ≡ None
 no-place s id none = go (object_at s id) none
   where

@@ -54,7 +54,7 @@ receiver_in v r = receiver_at v.rows r
 abbrev pub owed_in : Owing → ObjId → Option ObjId
 owed_in v r = owed_at v.rows r
 
--- r owes this caller now, or nobody, and the others owe whom they owed
+-- r owes this caller now, or no thread, and the others owe whom they owed
 abbrev pub SetsOwed : Owing → Owing → ObjId → Option ObjId → Type 0
 SetsOwed old new r caller = ChangesAt (owed_in old) (owed_in new) r caller
 
@@ -62,7 +62,7 @@ SetsOwed old new r caller = ChangesAt (owed_in old) (owed_in new) r caller
 abbrev pub chain_in : Owing → ObjId → List ObjId
 chain_in v s = linked_of v.links v.tops s
 
--- whether a reply object may come to owe: it is there and owes nobody
+-- whether a reply object may come to owe: it is there and owes no thread
 abbrev pub may_owe : Owing → ObjId → Bool
 may_owe v r = is_there v r && is_none (owed_in v r)
 

@@ -10,7 +10,7 @@ use crate::places::PlaceNo;
 use crate::tops::Tops;
 use mcs_types::{Ending, OBJECTS, ObjId};
 
-/// Where a reply object is in a chain: its context, and the places of the reply objects above and
+/// A reply object's link in a chain: the context, and the places of the reply objects above and
 /// below it (own).
 #[derive(Clone, Copy)]
 pub struct Link {
@@ -57,7 +57,7 @@ fn link_in(links: &[Option<Link>], place: PlaceNo) -> Option<Link>
     *links.get(place.0 as usize)?
 }
 
-/// Writes the link of a place.
+/// Sets or clears the link of a place.
 fn put(links: &mut Vec<Option<Link>>, place: PlaceNo, link: Option<Link>)
     requires { place.0 < length links.old.items }
     ensures items { links.new.items ≡ slice_set links.old.items place.0 link }
@@ -67,7 +67,7 @@ fn put(links: &mut Vec<Option<Link>>, place: PlaceNo, link: Option<Link>)
     links[place.0 as usize] = link;
 }
 
-/// Takes the link of a place away.
+/// Removes the link of a place.
 fn take(links: &mut Vec<Option<Link>>, place: PlaceNo)
     ensures items { links.new.items ≡ slice_set links.old.items place.0 None }
     ensures writes { Writes links.old.items links.new.items place.0 None }
@@ -107,7 +107,7 @@ fn set_below(links: &mut Vec<Option<Link>>, at: Option<PlaceNo>, below: Option<P
     put(links, place, Some(Link { below, ..link }));
 }
 
-/// Takes the links of a place and of all below it away: 256 at most.
+/// Removes the links of a place and of all places below it, at most 256.
 fn clear(links: &mut Vec<Option<Link>>, from: Option<PlaceNo>)
     requires { Apart (places_from links.old.items from) }
     ensures clears { Clears links.old.items links.new.items (places_from links.old.items from) }
@@ -126,7 +126,7 @@ fn clear(links: &mut Vec<Option<Link>>, from: Option<PlaceNo>)
     }
 }
 
-/// Lays a reply object on top of the chain of a context.
+/// Puts a reply object on top of the chain of a context.
 pub(crate) fn lay(
     links: &mut Vec<Option<Link>>,
     tops: &mut Tops,
@@ -143,7 +143,7 @@ pub(crate) fn lay(
     ensures chains { LiesOn links.old.items tops.old links.new.items tops.new reply context }
     ensures replies { GainsReply links.old.items links.new.items place.0 reply }
 {
-    // asked and moved with nothing between, so that its row is told apart once
+    // both calls in a row, so that the row is found once
     let below = tops.top(context);
     tops.move_to(context, Some(place));
     set_above(links, below, Some(place));
@@ -156,8 +156,8 @@ pub(crate) fn lay(
     put(links, place, Some(link));
 }
 
-/// Takes the top of a chain off it: the top moves down by one. At most three links change: the top
-/// of the context, the link of the reply object, and that of the one below it.
+/// Removes the top of a chain: the top moves down by one. At most three links change: the context's
+/// top, the link of the reply object, and that of the one below it.
 fn pop(links: &mut Vec<Option<Link>>, tops: &mut Tops, place: PlaceNo, link: Link)
     requires sound { Sound links.old.items tops.old }
     requires at { link_at links.old.items place.0 ≡ Some link }
@@ -171,7 +171,7 @@ fn pop(links: &mut Vec<Option<Link>>, tops: &mut Tops, place: PlaceNo, link: Lin
     tops.move_to(link.context, link.below);
 }
 
-/// Clears the top of the chain of a link's context, where nothing is above the link.
+/// Clears the top of the chain of a link's context, if nothing is above the link.
 fn cut_top(tops: &mut Tops, link: Link)
     ensures { tops.new ≡ left_by link tops.old }
 {
@@ -180,7 +180,7 @@ fn cut_top(tops: &mut Tops, link: Link)
     }
 }
 
-/// Takes a reply object and all below it from their chain: what is above stays.
+/// Removes a reply object and all below it from their chain; what is above stays.
 fn cut(links: &mut Vec<Option<Link>>, tops: &mut Tops, place: PlaceNo, link: Link)
     requires sound { Sound links.old.items tops.old }
     requires at { link_at links.old.items place.0 ≡ Some link }
@@ -194,8 +194,8 @@ fn cut(links: &mut Vec<Option<Link>>, tops: &mut Tops, place: PlaceNo, link: Lin
     cut_top(tops, link);
 }
 
-/// Takes a linked reply object from its chain, as its debt ends. Gives the context whose chain it
-/// topped.
+/// Removes a linked reply object from its chain, as its debt ends. Returns the context whose chain
+/// it topped.
 fn end(
     links: &mut Vec<Option<Link>>,
     tops: &mut Tops,
@@ -224,8 +224,8 @@ fn end(
     if is_top { Some(link.context) } else { None }
 }
 
-/// Takes the reply object of a place from the chain in which it is, if it is in one, as its debt
-/// ends. Gives the context whose chain it topped.
+/// Removes the reply object of a place from its chain, if it is in one, as its debt ends. Returns
+/// the context whose chain it topped.
 pub(crate) fn leave(
     links: &mut Vec<Option<Link>>,
     tops: &mut Tops,

@@ -1,5 +1,5 @@
-//! The places of reply objects, which links name.
+//! The places of reply objects in their table.
 
-/// Where a reply object lies in its table, counted from 0.
+/// The place of a reply object in its table, counted from 0.
 #[derive(Clone, Copy)]
 pub struct PlaceNo(pub u16);

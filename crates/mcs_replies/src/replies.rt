@@ -21,33 +21,32 @@ use mcs_types::{Ending, Kind, OBJECTS, ObjId, OutOfMemory, copy_rows};
 use std::alloc::Global;
 use std::marker::Model;
 
-/// A reply object: the receiver that is queued with it, and the caller that it owes an answer
-/// (manual: Message Passing).
+/// A reply object: the receiver queued with it, and the caller that it owes a reply (manual:
+/// Message Passing).
 #[derive(Clone, Copy)]
 pub struct ReplyRow {
     receiver: Option<ObjId>,
     caller: Option<ObjId>,
 }
 
-/// A debt that ended: the caller that was owed, and the context whose chain the reply object topped
-/// before, if it topped one (own).
+/// A debt that ended: the caller that was owed, and the context whose chain the reply object
+/// topped, if any (own).
 #[derive(Clone, Copy, PartialEq, Eq, Debug)]
 pub struct Ended {
     pub caller: ObjId,
     pub topped: Option<ObjId>,
 }
 
-/// Up to 256 reply objects, which come and go under serials that count from 1: the receiver that is
-/// queued with each, the caller that it owes, and the chain of each context (manual: Message
-/// Passing; chains are own). What is in a chain owes, and is in no other. All memory is taken when
-/// they are made (own).
+/// Up to 256 reply objects, with serials from 1: the receiver queued with each, the caller that it
+/// owes, and the chain of each context (manual: Message Passing; chains are own). A reply object in
+/// a chain owes, and is in no other chain. All memory is allocated when the table is made.
 pub struct Replies {
     rows: Store<ReplyRow>,
     links: Vec<Option<Link>>,
     tops: Tops,
 }
 
-// By hand, so that it is a function of its own: a derived drop would be proved anew wherever it is
+// Written by hand as a separate function: a derived drop would be proved again wherever it is
 // dropped.
 impl Drop for Replies {
     fn drop(self) {
@@ -70,7 +69,7 @@ impl Model for Replies {
         (record { rows = s.rows; links = s.links.items; tops = s.tops }) };
 }
 
-/// Sets the receiver of a reply object that exists, or clears it (None).
+/// Sets or clears the receiver of an existing reply object.
 fn keep_receiver(rows: &mut Store<ReplyRow>, reply: ObjId, receiver: Option<ObjId>)
     requires { has_row rows.old reply ≡ true }
     ensures shape { shape rows.new ≡ shape rows.old }
@@ -85,7 +84,7 @@ fn keep_receiver(rows: &mut Store<ReplyRow>, reply: ObjId, receiver: Option<ObjI
     }
 }
 
-/// Keeps another caller of a reply object that has this place.
+/// Sets the caller of a reply object that has this place.
 #[inline(always)]
 fn keep_caller(rows: &mut Store<ReplyRow>, reply: ObjId, place: PlaceNo, caller: Option<ObjId>)
     requires { place_at rows.old reply ≡ Some place.0 }
@@ -101,7 +100,7 @@ fn keep_caller(rows: &mut Store<ReplyRow>, reply: ObjId, place: PlaceNo, caller:
     }
 }
 
-/// The place of a reply object, or None where it is not there.
+/// The place of a reply object, or None if it does not exist.
 #[inline(always)]
 fn place_of(rows: &Store<ReplyRow>, reply: ObjId) -> Option<PlaceNo>
     ensures { place_number result ≡ place_at rows.now reply }
@@ -110,8 +109,8 @@ fn place_of(rows: &Store<ReplyRow>, reply: ObjId) -> Option<PlaceNo>
     Some(PlaceNo(number))
 }
 
-/// The caller that the reply object of this place owes.
-// by its place, so that its row is looked up once for what is asked and what is written
+/// Returns the caller that the reply object of this place owes.
+// by its place, so that its row is looked up once for both reading and writing
 #[inline(always)]
 fn owed_from(rows: &Store<ReplyRow>, reply: ObjId, place: PlaceNo) -> Option<ObjId>
     requires { place_at rows.now reply ≡ Some place.0 }
@@ -121,7 +120,7 @@ fn owed_from(rows: &Store<ReplyRow>, reply: ObjId, place: PlaceNo) -> Option<Obj
 }
 
 impl Replies {
-    /// No reply object, and room for 256 (own).
+    /// Returns a table without reply objects, with room for 256 (own).
     pub fn new(alloc: Global) -> Result<Replies, OutOfMemory>
         ensures counts { IfOk result (λ v. counts v ≡ empty_shape Kind.Reply object_limit) }
         ensures there { IfOk result (λ v. (r : ObjId) → is_there v r ≡ false) }
@@ -143,7 +142,7 @@ impl Replies {
         (rows, links, tops)
     }
 
-    /// Clones the table in the memory of a spare one (own). OutOfMemory where memory is refused.
+    /// Clones the table in the memory of a spare one (own). `OutOfMemory` if an allocation fails.
     pub fn copy(&self, alloc: Global, spare: Option<Replies>) -> Result<Replies, OutOfMemory>
         ensures { IfOk result (λ t. t ≡ self.now) }
     {
@@ -161,15 +160,15 @@ impl Replies {
         })
     }
 
-    /// What is kept of each reply object: how many were made and are there, and whether there is
-    /// room for one more (own).
+    /// Returns the row of each reply object; it tells how many were made and exist, and whether
+    /// there is room for one more (own).
     pub fn rows(&self) -> &Store<ReplyRow>
         ensures { result.now ≡ self.now.rows }
     {
         &self.rows
     }
 
-    /// Adds a reply object where there is room: its serial is the next, it owes nobody, and no
+    /// Adds a reply object; there must be room. Its serial is the next, it owes no thread, and no
     /// receiver is queued with it (own).
     pub fn add(&mut self) -> ObjId
         requires { no_room self.old ≡ false }
@@ -182,7 +181,7 @@ impl Replies {
         ensures owed { (r : ObjId) → owed_in self.new r ≡ owed_in self.old r }
         ensures chains { (s : ObjId) → chain_in self.new s ≡ chain_in self.old s }
     {
-        // A law for the proof: what is there was given, so the next serial is new.
+        // For the proof: existing objects were given serials, so the next serial is new.
         self.rows.are_apart();
         self.rows.add(ReplyRow {
             receiver: None,
@@ -190,14 +189,14 @@ impl Replies {
         })
     }
 
-    /// Whether a reply object was made and not closed (own).
+    /// Returns whether a reply object was made and not closed (own).
     pub fn is_there(&self, reply: ObjId) -> bool
         ensures { result ≡ is_there self.now reply }
     {
         self.rows.get(reply).is_some()
     }
 
-    /// The receiver that is queued with a reply object, or None where none is (manual: Message
+    /// The receiver that is queued with a reply object, or None if none is (manual: Message
     /// Passing).
     pub fn receiver(&self, reply: ObjId) -> Option<ObjId>
         ensures { result ≡ receiver_in self.now reply }
@@ -205,8 +204,7 @@ impl Replies {
         self.rows.get(reply)?.receiver
     }
 
-    /// Sets the receiver that is queued with a reply object that is there, or none (manual: Message
-    /// Passing).
+    /// Sets or clears the receiver queued with an existing reply object (manual: Message Passing).
     pub fn set_receiver(&mut self, reply: ObjId, receiver: Option<ObjId>)
         requires { is_there self.old reply ≡ true }
         ensures counts { counts self.new ≡ counts self.old }
@@ -218,15 +216,15 @@ impl Replies {
         keep_receiver(&mut self.rows, reply, receiver);
     }
 
-    /// The caller that a reply object owes, or None where it owes nobody (manual: Message Passing).
+    /// The caller that a reply object owes, or None if it owes no thread (manual: Message Passing).
     pub fn owed(&self, reply: ObjId) -> Option<ObjId>
         ensures { result ≡ owed_in self.now reply }
     {
         self.rows.get(reply)?.caller
     }
 
-    /// The user of a reply object: the caller that it owes, or else the receiver that is queued
-    /// with it; None where nobody does (manual: Message Passing).
+    /// Returns the user of a reply object: the caller that it owes, or else the receiver queued
+    /// with it; None if it has neither (manual: Message Passing).
     pub fn user(&self, reply: ObjId) -> Option<ObjId>
         ensures { result ≡ option_or (owed_in self.now reply) (receiver_in self.now reply) }
     {
@@ -234,8 +232,8 @@ impl Replies {
         row.caller.or(row.receiver)
     }
 
-    /// Proves that what is in a chain is there and owes, is in no other chain, and once in its own
-    /// (own).
+    /// Proves that each reply object in a chain exists and owes, is in no other chain, and only
+    /// once in its own (own).
     pub fn are_chained(&self)
         ensures { IsChained self.now }
     {
@@ -243,7 +241,7 @@ impl Replies {
         let _ = &self.links;
     }
 
-    /// Begins a debt of a reply object that has this place and owes nobody.
+    /// Begins a debt of a reply object that has this place and owes none.
     fn begin(&mut self, reply: ObjId, place: PlaceNo, caller: ObjId, brought: Option<ObjId>)
         requires place { place_at self.old.rows reply ≡ Some place.0 }
         requires free { owed_in self.old reply ≡ None }
@@ -253,8 +251,7 @@ impl Replies {
         ensures there { (r : ObjId) → is_there self.new r ≡ is_there self.old r }
         ensures receivers { (r : ObjId) → receiver_in self.new r ≡ receiver_in self.old r }
     {
-        // A law for the proof: reply objects that owe have different places, so there is room for a
-        // debt.
+        // For the proof: reply objects that owe have different places, so there is room for a debt.
         self.rows.are_apart();
         keep_caller(&mut self.rows, reply, place, Some(caller));
         let Some(context) = brought else {
@@ -264,7 +261,7 @@ impl Replies {
     }
 
     /// Makes a reply object owe a caller, and puts it on top of the chain of the context that the
-    /// caller brought. Returns false where it owes already or is not there: then nothing changes
+    /// caller brought. Returns false, and changes nothing, if it owes already or does not exist
     /// (manual: Message Passing; chains are own).
     pub fn owe(&mut self, reply: ObjId, caller: ObjId, brought: Option<ObjId>) -> bool
         ensures answer { result ≡ may_owe self.old reply }
@@ -286,8 +283,8 @@ impl Replies {
     }
 
     /// Pays the debt of a reply object. On top of a chain it is taken off; else it and all below
-    /// leave their chain, and those below still owe. Returns None, and changes nothing, where it
-    /// owes nobody (manual: Message Passing; chains are own). On top of a chain at most three links
+    /// leave the chain, and those below still owe. Returns None, and changes nothing, if it owes
+    /// none (manual: Message Passing; chains are own). On top of a chain at most three links
     /// change, however long the chain is (own).
     pub fn pay(&mut self, reply: ObjId) -> Option<Ended>
         ensures caller { option_map (λ e. e.caller) result ≡ owed_in self.old reply }
@@ -305,10 +302,10 @@ impl Replies {
         self.void(reply, Ending::Deleted)
     }
 
-    /// Voids the debt of a reply object. Deleted, a reply object leaves its chain as if it had
-    /// paid; cancelled, it and all below leave it, also from the top. Returns None, and changes
-    /// nothing, where it owes nobody (manual: Message Passing; chains are own).
-    // a part of its callers, which know how the debt ends
+    /// Voids the debt of a reply object. If it is deleted, it leaves its chain as if it had paid;
+    /// if it is cancelled, it and all below leave the chain, also from the top. Returns None, and
+    /// changes nothing, if it owes none (manual: Message Passing; chains are own).
+    // inlined: callers know how the debt ends
     #[inline(always)]
     pub fn void(&mut self, reply: ObjId, how: Ending) -> Option<Ended>
         ensures caller { option_map (λ e. e.caller) result ≡ owed_in self.old reply }
@@ -330,8 +327,8 @@ impl Replies {
         Some(Ended { caller, topped })
     }
 
-    /// The reply objects in the chain of a context, from the top; none where it came along no chain
-    /// (own).
+    /// Returns the reply objects in the chain of a context, from the top; none if the chain is
+    /// empty (own).
     pub fn chain_of(&self, context: ObjId) -> Chain<'_>
         ensures { rest_of result ≡ chain_in self.now context }
     {
@@ -342,14 +339,14 @@ impl Replies {
         }
     }
 
-    /// The reply object on top of the chain of a context, or None where the chain is empty (own).
+    /// The reply object on top of the chain of a context, or None if the chain is empty (own).
     pub fn top_of(&self, context: ObjId) -> Option<ObjId>
         ensures { result ≡ head_of (chain_in self.now context) }
     {
         self.chain_of(context).next()
     }
 
-    /// Empties the chain of a context: what was in it owes still (own).
+    /// Empties the chain of a context; its reply objects still owe (own).
     pub fn drop_chain(&mut self, context: ObjId)
         ensures chains { ChangesAt (chain_in self.old) (chain_in self.new) context [] }
         ensures owed { (r : ObjId) → owed_in self.new r ≡ owed_in self.old r }
@@ -360,8 +357,8 @@ impl Replies {
         links::drop_links(&mut self.links, &mut self.tops, context);
     }
 
-    /// Forgets a reply object that owes nobody and with which no receiver is: its serial is never
-    /// reused (manual: Kernel Services and Objects).
+    /// Removes a reply object that owes none and has no receiver. Its serial is never reused
+    /// (manual: Kernel Services and Objects).
     pub fn close(&mut self, reply: ObjId)
         requires there { is_there self.old reply ≡ true }
         requires alone { receiver_in self.old reply ≡ None }

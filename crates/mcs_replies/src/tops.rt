@@ -1,4 +1,4 @@
-//! The top of each context's chain, which is where the serial of the context says.
+//! The top of each context's chain, found by the serial of the context.
 ghost use Rattle.std.specs.Prelude.{◌≡◌, ◌≤◌, ◌<◌, ◌++◌, ◌%◌, position, length, replicate, vec_len, vec_capacity, [], Some, None, IsSome, IfOk};
 ghost use Rattle.mcs_types.specs.Limits.{object_limit};
 ghost use Rattle.mcs_replies.specs.Places.{place_number};
@@ -16,9 +16,9 @@ pub struct Top {
     top: PlaceNo,
 }
 
-/// The top of each chain that is not empty (own). The row of a context is at its home, which its
-/// serial tells, or among the others, where the row of another context was at home as it came:
-/// their serials then differ by a multiple of 256, which is rare.
+/// The top of each chain that is not empty (own). The row of a context is at its home, which
+/// follows from its serial, or among the others, if another context had taken that home: their
+/// serials then differ by a multiple of 256, which is rare.
 #[derive(Drop)]
 pub struct Tops {
     homes: Vec<Option<Top>>,
@@ -38,14 +38,14 @@ impl Model for Tops {
         × (object_limit ≤ vec_capacity t.others) };
 }
 
-/// Where the row of a context is among those that are not at home.
+/// Returns the index of a context's row among those not at home.
 fn place_among(others: &[Top], context: ObjId) -> Option<usize>
     ensures { result ≡ position (is_for context) others.now }
 {
     others.iter().position(|row| row.context.is_same(context))
 }
 
-/// The top of the chain of a context whose row is not at home.
+/// Returns the top of the chain of a context whose row is not at home.
 fn top_among(others: &[Top], context: ObjId) -> Option<PlaceNo>
     ensures { place_number result ≡ top_among others.now context }
 {
@@ -53,7 +53,7 @@ fn top_among(others: &[Top], context: ObjId) -> Option<PlaceNo>
     Some(others[at].top)
 }
 
-/// Adds a row. There is room for one.
+/// Adds a row; there must be room.
 fn push_row(others: &mut Vec<Top>, context: ObjId, top: PlaceNo)
     requires { vec_len others.old < vec_capacity others.old }
     ensures items { others.new.items ≡ others.old.items ++ row_of context top.0 }
@@ -65,7 +65,7 @@ fn push_row(others: &mut Vec<Top>, context: ObjId, top: PlaceNo)
     }
 }
 
-/// Sets the top in the row of a context. There is room for one row more, unless it has one.
+/// Sets the top in the row of a context, or adds a row; there must be room for one.
 fn enter_among(others: &mut Vec<Top>, context: ObjId, top: PlaceNo)
     requires { top_among others.old.items context ≡ None
         → vec_len others.old < vec_capacity others.old }
@@ -88,7 +88,7 @@ fn leave_among(others: &mut Vec<Top>, context: ObjId)
     }
 }
 
-/// Where the row of a context is at home.
+/// Returns the home index of a context.
 #[inline(always)]
 fn home_of(context: ObjId) -> usize
     ensures home { result ≡ home context }
@@ -98,7 +98,7 @@ fn home_of(context: ObjId) -> usize
 }
 
 impl Tops {
-    /// No tops, and room for those of 256 chains.
+    /// Returns an empty table of tops, with room for those of 256 chains.
     pub(crate) fn new(alloc: Global) -> Result<Tops, OutOfMemory>
         ensures homes { IfOk result (λ t. t.homes ≡ replicate object_limit None) }
         ensures others { IfOk result (λ t. t.others ≡ []) }
@@ -110,7 +110,7 @@ impl Tops {
         })
     }
 
-    /// Clones the tops in the memory of spare ones. OutOfMemory where memory is refused.
+    /// Clones the tops in the memory of spare ones. `OutOfMemory` if an allocation fails.
     pub(crate) fn copy(&self, alloc: Global, spare: Option<Tops>) -> Result<Tops, OutOfMemory>
         ensures { IfOk result (λ t. t ≡ self.now) }
     {
@@ -124,7 +124,7 @@ impl Tops {
         })
     }
 
-    /// The top of the chain of a context, or None where the chain is empty.
+    /// The top of the chain of a context, or None if the chain is empty.
     pub(crate) fn top(&self, context: ObjId) -> Option<PlaceNo>
         ensures { place_number result ≡ top_at self.now context }
     {
@@ -134,7 +134,7 @@ impl Tops {
         }
     }
 
-    /// Whether the row of a context is to be at home.
+    /// Returns whether the row of a context belongs at home.
     fn takes_home(&self, context: ObjId) -> bool
         ensures { result ≡ takes_home self.now context }
     {
@@ -169,7 +169,7 @@ impl Tops {
 
     /// Sets the top of a context's chain, or clears it (None). A context that has no top yet needs
     /// room for one.
-    // a part of its callers, which know whether there is one
+    // inlined: callers know whether there is one
     #[inline(always)]
     pub(crate) fn move_to(&mut self, context: ObjId, top: Option<PlaceNo>)
         requires { IsSome top → top_at self.old context ≡ None

@@ -39,7 +39,7 @@ use Rattle.mcs_book.proofs.SoundLogs.Keeping.{onto-append}
 
 -- ---- records
 
--- the message of a record is in its ranges: it has at most so many words as a message may have,
+-- the message of a record is in its ranges: it has at most as many words as a message may have,
 -- each of 64 bits
 abbrev pub HasFewWords : Log → Rec → Type 0
 HasFewWords R (rec.Sent x e mode badge message) = IsMessage message

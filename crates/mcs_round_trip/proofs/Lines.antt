@@ -19,7 +19,7 @@ lines_of-forms (f ∷ fs) = ap lines_of (flat_map-cons form_text f fs) ∙ lines
 
 -- ---- traces
 
--- the forms of records, before which so many messages were sent
+-- the forms of records, before which this many messages were sent
 abbrev pub record_forms : ℕ → List Rec → List Form
 record_forms n [] = []
 record_forms n (r ∷ rs) = rec_form n r ∷ record_forms (sent_with n r) rs

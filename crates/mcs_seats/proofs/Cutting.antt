@@ -61,7 +61,7 @@ line-made R l h =
     let made : two ≡ l = ap (λ rs. record { step = l.step; answer = l.answer; records = rs }) (sym h.records) in
     told ∙ made
 
--- who may enter is let in where there is room
+-- who may enter is accepted where there is room
 let-in : (b : Book) (core : CoreId) (t : ObjId) → may_enter (log_of b) core t ≡ true → has_room b ≡ true
     → fault_of b core t ≡ None
 unfolding fault_of may_enter
@@ -107,7 +107,7 @@ numbered b at some = go (at == 0) refl
     go false e = refl
     go true e = let no : at ≡ 0 = grind (arith, common_steps, e) in absurd (omega (arith, no, some))
 
--- where there is no line the book has ended
+-- if there is no line the book has ended
 pub line-none : (b : Book) (at : ℕ) → 1 ≤ at → line_of_number b at ≡ None → length b.lines < at
 line-none b at some e = elim (slice_get_cases (reverse b.lines) (at - 1)).1 [ inl h ↦ absurd (no h.0 h.2) | inr h ↦ past h.0 ]
   where

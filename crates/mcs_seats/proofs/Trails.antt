@@ -40,7 +40,7 @@ wrong-torn w k x to here wrong =
     let same : 1 + k ≡ k + 1 = omega arith in
     subst (λ n. IsTornOf w n) same (to.torn 1 torn)
 
--- the core is told more than its calls
+-- more is reported to the core than to its calls
 pub left-torn : (w : Trail) (k : ℕ) → AreRightTo w k → length w.calls ≤ k → notes_ahead w ≢ [] → IsTornOf w (k + 1)
 left-torn w k to le more =
     let torn : IsTornFrom w (drop k w.calls) 1 = subst (λ ys. IsTornFrom w ys 1) (sym (drop_all k w.calls le)) (refl, more) in
@@ -233,8 +233,8 @@ pub line-foreign : (w : Trail) (k : ℕ) (l : Line) → AreRightTo w k → IsLat
     → line_of_number w.book w.at ≡ Some l → (l.step.core.0 == w.core.0) ≡ false → AreRightTo (past_line w) k
 line-foreign w k l h later some is other = past-foreign w k h later (notes-foreign w.book w.core w.at l some is other)
 
--- before the next line, which is the core's own, so many calls are right, and the next one was not
--- skipped before it
+-- before the next line, which is the core's own, this many calls are right, and the next one was
+-- not skipped before it
 pub record IsBeforeOwn (w : Trail) (k : ℕ) (l : Line) : Type 0 where
   pub right : AreRightTo w k
   pub later : IsLater w.at (drop k w.calls)
@@ -267,7 +267,7 @@ module _ (w : Trail) (k : ℕ) (l : Line) (before : IsBeforeOwn w k l) where
       wrong-torn w k x before.right call
       (late-wrong w x m f (note_of w.at l) (notes_from w.book w.core (w.at + 1)) away late refl told-next)
 
-  -- where there is no call
+  -- if there is no call
   pub line-left : length w.calls ≤ k → IsTornOf w (k + 1)
   line-left le =
       left-torn w k before.right le

@@ -19,17 +19,17 @@ pub record Seat : Type 0 where
   pub core : CoreId
   pub calls : List Call
 
--- how many lines were told by an outcome
+-- how many lines an outcome reported
 abbrev pub lines_told : Outcome → ℕ
 lines_told (Told a) = 1
 lines_told (Away n f) = 0
 
--- how many lines were told
+-- how many lines were reported
 abbrev pub told : List Call → ℕ
 told [] = 0
 told (c ∷ cs) = lines_told c.outcome + told cs
 
--- how many lines these seats were told
+-- how many lines were reported to these seats
 abbrev pub told_by : List Seat → ℕ
 told_by seats = sum_by (λ (s : Seat). told s.calls) seats
 
@@ -43,7 +43,7 @@ noted s t e (Ok a) = with_call s t e (Told a)
 noted s t e (Err (turned.Away n f)) = with_call s t e (Away n f)
 noted s t e (Err turned.OutOfMemory) = s
 
--- why an entry has no line: what is wrong with it, when the book has so many lines
+-- why an entry has no line: the fault of it, when the book has this many lines
 abbrev pub WhyTurned : Book → CoreId → ObjId → Turned → Type 0
 WhyTurned b c t (turned.Away n f) = (n ≡ length b.lines + 1) × (fault_of b c t ≡ Some f)
 WhyTurned b c t turned.OutOfMemory = Unit {0}
@@ -59,7 +59,7 @@ pub record Enters (old new : Seat) (before after : Book) (t : ObjId) (e : Entry)
   pub unchanged : OnErr r (after ≡ before)
   pub away : IfErr r (WhyTurned before old.core t)
 
--- a seat for each core in order, which was told nothing
+-- a seat for each core in order, to which nothing was reported
 abbrev pub AreNew : List Seat → Type 0
 AreNew seats =
     (i : ℕ) (d : Seat) → i < length seats

@@ -17,22 +17,22 @@ use Rattle.mcs_seats.specs.declared.call.Call.{Call}
 use Rattle.mcs_seats.specs.declared.settle.FinishFault.{FinishFault}
 use Rattle.mcs_seats.specs.declared.settle.FinishFault.TheVariants.{MissingSeat, OtherBoot, Torn, OutOfMemory}
 
--- what a core is told of a line: its number, the thread, the entry and the answer
+-- what is reported to a core about a line: its number, the thread, the entry and the answer
 pub record Note : Type 0 where
   pub line : ℕ
   pub thread : ObjId
   pub entry : Entry
   pub answer : Answer
 
--- what it was told by a call with this answer
+-- what a call with this answer reported to it
 abbrev pub told_note : Call → Answered → Note
 told_note x a = record { line = a.line; thread = x.thread; entry = x.entry; answer = a.answer }
 
--- what it is told of a line of this number, step and answer
+-- what is reported to it about a line of this number, step and answer
 abbrev pub noted_line : ℕ → Step → Answer → Note
 noted_line n s a = record { line = n; thread = s.thread; entry = s.entry; answer = a }
 
--- what it is told of the line of this number
+-- what is reported to it about the line of this number
 abbrev pub note_of : ℕ → Line → Note
 note_of n l = noted_line n l.step l.answer
 
@@ -40,16 +40,16 @@ note_of n l = noted_line n l.step l.answer
 abbrev pub own_note : CoreId → ℕ → Line → List Note
 own_note c n l = if l.step.core.0 == c.0 then note_of n l ∷ [] else []
 
--- what it is told of lines, of which the first has this number
+-- what is reported to it about lines, of which the first has this number
 abbrev pub notes_of_lines : CoreId → ℕ → List Line → List Note
 notes_of_lines c n [] = []
 notes_of_lines c n (l ∷ ls) = own_note c n l ++ notes_of_lines c (n + 1) ls
 
--- what it is told of a book from the line of number n on
+-- what is reported to it about a book from the line of number n on
 abbrev pub notes_from : Book → CoreId → ℕ → List Note
 notes_from b c n = notes_of_lines c n (drop (n - 1) (reverse b.lines))
 
--- what it is told of a whole book
+-- what is reported to it about a whole book
 abbrev pub notes_of : Book → CoreId → List Note
 notes_of b c = notes_from b c 1
 
@@ -72,8 +72,9 @@ abbrev pub later_notes : List Note → List Note
 later_notes [] = []
 later_notes (n ∷ ns) = ns
 
--- a call of which this became is right, where the core is still told these notes and the book had
--- at least so many lines: it was told the next line, or skipped rightly before that line came
+-- a call with this outcome is right, where these notes are still to be reported to the core and the
+-- book had at least this many lines: it reported the next line, or was skipped rightly before that
+-- line came
 abbrev pub IsRightAt : Book → CoreId → List Note → ℕ → Call → Outcome → Type 0
 IsRightAt b c notes lines x (Told a) = next_note notes ≡ Some (told_note x a)
 IsRightAt b c notes lines x (Away n f) = (lines ≤ n) × (n ≤ next_line b notes) × (fault_of (cut b (n - 1)) c x.thread ≡ Some f)
@@ -92,26 +93,26 @@ abbrev pub lines_after : Outcome → ℕ
 lines_after (Told a) = a.line + 1
 lines_after (Away n f) = n
 
--- calls, the oldest first, are right one after another, and the core is told no more
+-- calls, the oldest first, are right one after another, and no more is reported to the core
 abbrev pub AreRight : Book → CoreId → List Note → ℕ → List Call → Type 0
 AreRight b c notes lines [] = notes ≡ []
 AreRight b c notes lines (x ∷ xs) =
     IsRight b c notes lines x × AreRight b c (notes_after x.outcome notes) (lines_after x.outcome) xs
 
 -- the n-th of these calls is the first that is not right; or all are, n is one more than they are,
--- and the core is told more
+-- and more is reported to the core
 abbrev pub IsTornAt : Book → CoreId → List Note → ℕ → List Call → ℕ → Type 0
 IsTornAt b c notes lines [] n = (n ≡ 1) × (notes ≢ [])
 IsTornAt b c notes lines (x ∷ xs) n =
     ((n ≡ 1) × (¬ (IsRight b c notes lines x)))
     ⊎ (IsRight b c notes lines x × IsTornAt b c (notes_after x.outcome notes) (lines_after x.outcome) xs (n - 1) × (1 < n))
 
--- what an outcome told
+-- what an outcome reported
 abbrev pub notes_told : Call → Outcome → List Note
 notes_told x (Told a) = told_note x a ∷ []
 notes_told x (Away n f) = []
 
--- what calls were told, the oldest first
+-- what calls reported, the oldest first
 abbrev pub told_of : List Call → List Note
 told_of [] = []
 told_of (x ∷ xs) = notes_told x x.outcome ++ told_of xs
@@ -124,8 +125,8 @@ entry_told c n = (record { core = c; thread = n.thread; entry = n.entry }, n.ans
 abbrev pub entry_of : Line → Step × Answer
 entry_of l = (l.step, l.answer)
 
--- a seat was told its core's lines and no other, in order, with their numbers and answers, and was
--- skipped rightly
+-- a seat received the reports of its core's lines and of no others, in order, with their numbers
+-- and answers, and was skipped rightly
 abbrev pub Agrees : Book → Seat → Type 0
 Agrees b s = AreRight b s.core (notes_of b s.core) 1 (reverse s.calls)
 

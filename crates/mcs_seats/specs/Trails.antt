@@ -60,7 +60,7 @@ pub record IsBeside (p : Place) (w : Trail) : Type 0 where
   pub book : w.book ≡ p.book
   pub at : w.at ≡ p.at
 
--- what the core is told from there on
+-- what is reported to the core from there on
 abbrev pub notes_ahead : Trail → List Note
 notes_ahead w = notes_from w.book w.core w.at
 

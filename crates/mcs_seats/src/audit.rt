@@ -5,8 +5,8 @@ ghost use Rattle.mcs_seats.specs.Seats.{told_by};
 use crate::seat::CoreSeat;
 use std::sync::ledger::{Book, Ledger, Share};
 
-/// Puts the shares of seats to what was kept of their ledger, and audits that: where no part is
-/// missing, the seats have as many lines as the ledger counts.
+/// Adds the shares of seats to the ledger's own share, and audits the sum: if no share is missing,
+/// the seats have as many lines as the ledger counts.
 pub fn audit_seats<G: Ledger>(book: &mut Book<G>, kept: Share<G>, seats: Vec<CoreSeat<G>>)
     requires { kept.amount ≡ 0 }
     ensures parts { kept.parts + length seats.items ≤ G.parts }
@@ -14,7 +14,7 @@ pub fn audit_seats<G: Ledger>(book: &mut Book<G>, kept: Share<G>, seats: Vec<Cor
         → told_by seats.items ≡ book.old.total }
 {
     let mut kept = kept;
-    // An empty share first, so that the parts are no more than there are, also without a seat.
+    // An empty share first, so that the number of parts is right even without a seat.
     let mut all = kept.empty();
     all.merge(kept);
     for seat in seats {

@@ -1,25 +1,24 @@
-//! What a core keeps of an entry (own).
+//! A core's record of an entry (own).
 use mcs_kernel::EnterFault;
 use mcs_types::{Answer, Entry, ObjId};
 
-/// An entry that was let in: the number of its line in the book, and its answer. The boot is number
-/// 0.
+/// An accepted entry: the number of its line in the book, and its answer. The boot is line 0.
 #[derive(Drop)]
 pub struct Answered {
     pub line: usize,
     pub answer: Answer,
 }
 
-/// What became of an entry.
+/// The outcome of an entry.
 #[derive(Drop)]
 pub enum Outcome {
-    /// It was let in.
+    /// It was accepted.
     Told(Answered),
-    /// It was skipped when the book had so many lines, the boot's among them.
+    /// It was skipped when the book had `lines` lines, the boot's among them.
     Away { lines: usize, fault: EnterFault },
 }
 
-/// An entry of a thread on a core, and what became of it.
+/// An entry of a thread on a core, and its outcome.
 #[derive(Drop)]
 pub struct Call {
     pub thread: ObjId,
@@ -30,9 +29,9 @@ pub struct Call {
 /// Why an entry has no line.
 #[derive(Clone, Copy, PartialEq, Eq, Debug)]
 pub enum Turned {
-    /// It was skipped (1 to 4 of EnterFault) when the book had so many lines, the boot's among
-    /// them.
+    /// It was skipped (faults 1 to 4 of EnterFault) when the book had `lines` lines, the boot's
+    /// among them.
     Away { lines: usize, fault: EnterFault },
-    /// A growth was refused: that of the seat, which comes first, or that of the kernel.
+    /// An allocation failed: of the seat, which comes first, or of the kernel.
     OutOfMemory,
 }

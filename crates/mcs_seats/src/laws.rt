@@ -3,14 +3,14 @@ ghost use Rattle.std.specs.Prelude.{◌≡◌, map, reverse};
 ghost use Rattle.mcs_book.specs.History.{of_core};
 ghost use Rattle.mcs_seats.specs.Settling.{Agreement, told_of, notes_of, entry_told, entry_of};
 
-/// A seat that agrees with a book has the lines of its core, all and in order, with their numbers,
-/// threads, entries and answers, and no other.
+/// Law: a seat that agrees with a book has the lines of its core and no others, in order, with
+/// their numbers, threads, entries and answers.
 pub fn told_lines()
     ghost it: { Agreement }
     ensures { told_of (reverse it.seat.calls) ≡ notes_of it.book it.seat.core }
 {}
 
-/// The entries of these calls, with their answers, are the lines of its core in order.
+/// Law: the entries of a seat's calls, with their answers, are the lines of its core in order.
 pub fn told_of_core()
     ghost it: { Agreement }
     ensures { map (entry_told it.seat.core) (told_of (reverse it.seat.calls))

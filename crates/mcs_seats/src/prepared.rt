@@ -1,4 +1,4 @@
-//! What a call of a seat needs besides the kernel, made before the lock is taken (own).
+//! What a call of a seat needs besides the kernel, allocated before the lock is taken (own).
 ghost use Rattle.std.specs.Prelude.{◌≡◌, ◌⊎◌, true, IfOk, IsSome};
 ghost use Rattle.mcs_types.specs.Brings.{IsPlain};
 
@@ -6,8 +6,8 @@ use mcs_types::{Answer, Entry, OutOfMemory, Room};
 use std::alloc::Global;
 use std::marker::Model;
 
-/// An entry, the seat's copy of it, and room for the seat's copy of a message with which it may be
-/// answered. Clauses see the entry.
+/// An entry, the seat's copy of it, and room for the seat's copy of a received message. Clauses see
+/// the entry.
 #[derive(Drop)]
 pub struct Prepared {
     pub(crate) entry: Entry,
@@ -28,8 +28,8 @@ impl Model for Prepared {
 }
 
 impl Prepared {
-    /// The entry with its copy, and with room where it receives. OutOfMemory where one of them is
-    /// refused.
+    /// Returns an entry with its copy, and with room if it receives. `OutOfMemory` if an allocation
+    /// fails.
     pub(crate) fn new(alloc: Global, entry: Entry) -> Result<Prepared, OutOfMemory>
         ensures { IfOk result (λ p. p ≡ entry) }
     {
@@ -43,7 +43,7 @@ impl Prepared {
     }
 }
 
-/// An equal answer, for which there is room or which brings no message.
+/// Returns an equal answer; there must be room, unless it has no message.
 pub(crate) fn copy_answer(alloc: Global, answer: &Answer, room: Option<Room>) -> Answer
     requires { IsSome room ⊎ IsPlain answer.now }
     ensures { result ≡ answer.now }

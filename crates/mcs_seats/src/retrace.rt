@@ -1,5 +1,5 @@
-//! Whether the calls of seats agree with a book, which is made again once for all of them, line by
-//! line (own).
+//! Checks whether the calls of seats agree with a book, by one replay of the book for all of them
+//! (own).
 ghost use Rattle.std.specs.Prelude.{◌≡◌, ◌==◌, ◌≤◌, ◌+◌, ◌-◌, true, All, IfOk, IfNone, IfSome, OnOk, IsTrue, ◌↔◌, Some, drop, length, map};
 ghost use Rattle.mcs_book.specs.History.{line_of_number};
 ghost use Rattle.mcs_kernel.specs.Faults.{fault_of};
@@ -16,7 +16,7 @@ use std::alloc::Global;
 use std::marker::Model;
 use std::sync::ledger::Ledger;
 
-/// What a line has, as a copy of its own: the step and the answer.
+/// The step and the answer of a line, as copies.
 #[derive(Drop)]
 struct LineCopy {
     step: Step,
@@ -24,7 +24,7 @@ struct LineCopy {
 }
 
 impl LineCopy {
-    /// OutOfMemory where a growth was refused.
+    /// Copies a line. `OutOfMemory` if an allocation fails.
     fn new(alloc: Global, line: &Line<'_>) -> Result<LineCopy, OutOfMemory>
         ensures step { IfOk result (λ c. c.step ≡ line.now.step) }
         ensures answer { IfOk result (λ c. c.answer ≡ line.now.answer) }
@@ -36,8 +36,8 @@ impl LineCopy {
     }
 }
 
-/// A book that is made again, line by line. The replay has made the lines before that of number
-/// `at`. Clauses see the book and that number.
+/// A replay of a book, line by line; the lines before line `at` were made again. Clauses see the
+/// book and that number.
 #[derive(Drop)]
 struct Retrace<'a, L: Lines> {
     book: &'a Book,
@@ -57,7 +57,7 @@ impl<'a, L: Lines> Model for Retrace<'a, L> {
 }
 
 impl<'a, L: Lines> Retrace<'a, L> {
-    /// Before the first line after the boot.
+    /// Returns a replay before the first line after the boot.
     fn new(alloc: Global, book: &'a Book, boot: &Boot) -> Result<Retrace<'a, L>, OutOfMemory>
         requires kept { IsKernelBook book.now.book }
         requires boot { book.now.book.boot ≡ boot.now }
@@ -70,7 +70,7 @@ impl<'a, L: Lines> Retrace<'a, L> {
         })
     }
 
-    /// Why an entry would be skipped before the next line.
+    /// Returns why an entry would be skipped before the next line.
     fn fault(&self, core: CoreId, thread: ObjId) -> Option<EnterFault>
         ensures found { result ≡ fault_of (cut self.now.book (self.now.at - 1)) core thread }
         ensures within { self.now.at ≤ length self.now.book.lines + 1 }
@@ -88,24 +88,24 @@ impl<'a, L: Lines> Retrace<'a, L> {
                 self.at += 1;
                 Ok(())
             }
-            // It was let in before, so only memory can be refused.
+            // It was accepted before, so only an allocation can fail.
             Err(_) => Err(OutOfMemory),
         }
     }
 }
 
-/// How far the calls of a seat are right.
+/// How far the calls of a seat agree with the book.
 #[derive(Clone, Copy)]
 pub(crate) enum Progress {
-    /// So many are; of the others none was skipped before the next line.
+    /// This many agree; of the others none was skipped before the next line.
     Right(usize),
-    /// The call of this number, counted from 1, is the first that is not; one more than there are,
-    /// where the core has more.
+    /// The call with this number, counted from 1, is the first that does not agree; one more than
+    /// there are, if the core has more lines.
     Torn(usize),
 }
 
-/// The calls of a seat, which were followed past the lines of a book before that of number `at`.
-/// Clauses see the book, the core, the calls and that number.
+/// The calls of a seat, compared with a book up to line `at`. Clauses see the book, the core, the
+/// calls and that number.
 #[derive(Drop)]
 struct Follower<'a> {
     book: &'a Book,
@@ -130,14 +130,14 @@ impl<'a> Model for Follower<'a> {
     ghost invariant = { λ f. IsFollowed f.book.now.book f.core f.calls.now f.at f.progress };
 }
 
-/// Whether this fault was found.
+/// Returns whether both faults are the same.
 fn is_same_fault(found: Option<EnterFault>, fault: EnterFault) -> bool
     ensures { IsTrue result ↔ (found ≡ Some fault) }
 {
     found == Some(fault)
 }
 
-/// Whether a call has this line, which is of this number.
+/// Returns whether a call was reported this line with this number.
 fn is_noted(number: usize, line: &LineCopy, call: &Call, told: &Answered) -> bool
     ensures { IsTrue result
         ↔ (noted_line number line.now.step line.now.answer ≡ told_note call.now told.now) }
@@ -149,7 +149,7 @@ fn is_noted(number: usize, line: &LineCopy, call: &Call, told: &Answered) -> boo
 }
 
 impl<'a> Follower<'a> {
-    /// Before the first line after the boot, where no call was followed.
+    /// Returns a follower before the first line after the boot.
     fn new<G: Ledger>(book: &'a Book, seat: &'a CoreSeat<G>) -> Follower<'a>
         requires { IsKernelBook book.now.book }
         ensures { result ≡ trail_of book.now.book 1 seat.now }
@@ -163,7 +163,7 @@ impl<'a> Follower<'a> {
         }
     }
 
-    /// How far the calls are right, when those are followed that were skipped before the next line.
+    /// Returns how far the calls agree after those that were skipped before the next line.
     fn follow_away<L: Lines>(&self, retrace: &Retrace<'_, L>) -> Progress
         requires { IsBeside retrace.now self.now }
         ensures { IsReady self.now result }
@@ -192,8 +192,8 @@ impl<'a> Follower<'a> {
         Progress::Right(self.calls.len())
     }
 
-    /// How far the calls are right after the next line, which is the core's: the next call has to
-    /// be told it.
+    /// Returns how far the calls agree after the next line, which is of this core: the next call
+    /// must have it.
     fn follow_own(&self, count: usize, line: &LineCopy) -> Progress
         requires right { AreRightTo self.now count }
         requires later { IsLater self.now.at (drop count self.now.calls) }
@@ -216,7 +216,7 @@ impl<'a> Follower<'a> {
         }
     }
 
-    /// How far the calls are right after the next line.
+    /// Returns how far the calls agree after the next line.
     fn follow_line(&self, count: usize, line: &LineCopy) -> Progress
         requires right { AreRightTo self.now count }
         requires later { IsLater self.now.at (drop count self.now.calls) }
@@ -230,7 +230,7 @@ impl<'a> Follower<'a> {
     }
 
     /// Compares with the book the calls that were skipped before its next line, and the call of
-    /// that line where it is of this core, and goes one line further.
+    /// that line if it is of this core; then advances past the line.
     fn pass_line<L: Lines>(&mut self, retrace: &Retrace<'_, L>, line: &LineCopy)
         requires beside { IsBeside retrace.now self.old }
         requires line { IsLineAt retrace.now line.now }
@@ -243,7 +243,7 @@ impl<'a> Follower<'a> {
         self.at += 1;
     }
 
-    /// The number of the first call that does not agree with the book, after whose last line it is.
+    /// Returns the number of the first call that does not agree with the book, after its last line.
     fn torn_call<L: Lines>(&self, retrace: &Retrace<'_, L>) -> Option<usize>
         requires beside { IsBeside retrace.now self.now }
         requires end { retrace.now.at ≡ length retrace.now.book.lines + 1 }
@@ -263,7 +263,7 @@ impl<'a> Follower<'a> {
     }
 }
 
-/// A follower of each seat, before the first line after the boot.
+/// Returns a follower for each seat, before the first line after the boot.
 fn followers<'a, G: Ledger>(
     alloc: Global,
     book: &'a Book,
@@ -282,7 +282,7 @@ fn followers<'a, G: Ledger>(
     Ok(followers)
 }
 
-/// Has all followers pass the next line.
+/// Advances all followers past the next line.
 fn pass_all<L: Lines>(followers: &mut Vec<Follower<'_>>, retrace: &Retrace<'_, L>, line: &LineCopy)
     requires beside { All (IsBeside retrace.now) followers.old.items }
     requires line { IsLineAt retrace.now line.now }
@@ -293,7 +293,7 @@ fn pass_all<L: Lines>(followers: &mut Vec<Follower<'_>>, retrace: &Retrace<'_, L
     }
 }
 
-/// Has all followers pass the next line, and makes it again.
+/// Advances all followers past the next line, and makes the line again.
 fn pass_next<L: Lines>(
     alloc: Global,
     followers: &mut Vec<Follower<'_>>,
@@ -310,8 +310,8 @@ fn pass_next<L: Lines>(
     retrace.make_line(alloc, &line)
 }
 
-/// The core of the first follower whose calls do not agree with the book, after whose last line all
-/// are, and the number of the first such call.
+/// Returns the core of the first follower whose calls do not agree with the book, and the number of
+/// the first such call; all followers are past the last line.
 fn torn_follower<L: Lines>(
     followers: &Vec<Follower<'_>>,
     retrace: &Retrace<'_, L>,
@@ -329,8 +329,8 @@ fn torn_follower<L: Lines>(
     None
 }
 
-/// The first seat whose calls do not agree with a book, by its core and the number of the first
-/// such call. The book is made once: before each line the calls are compared that were skipped
+/// Returns the first seat whose calls do not agree with a book, by its core and the number of the
+/// first such call. One replay compares all seats: before each line the calls that were skipped
 /// there, and then the line with the next call of its core.
 pub(crate) fn first_torn<G: Ledger, L: Lines>(
     alloc: Global,

@@ -10,8 +10,8 @@ use std::alloc::Global;
 use std::marker::Model;
 use std::sync::ledger::{Book, Ledger, Share};
 
-/// What a core knows of its calls. Its share of the ledger counts the lines that it has. Clauses
-/// see the core and the calls, newest first.
+/// The calls of a core. Its share of the ledger counts its lines. Clauses see the core and the
+/// calls, newest first.
 #[derive(Drop)]
 pub struct CoreSeat<G: Ledger> {
     core: CoreId,
@@ -31,7 +31,7 @@ impl<G: Ledger> Model for CoreSeat<G> {
         × (s.share.amount ≡ told (reverse s.calls.items)) };
 }
 
-/// Keeps a call, for which there is room.
+/// Keeps a call; there must be room.
 fn keep(calls: &mut Vec<Call>, thread: ObjId, entry: Entry, outcome: Outcome)
     requires { vec_len calls.old < vec_capacity calls.old }
     ensures { calls.new.items ≡ calls.old.items
@@ -50,7 +50,7 @@ fn keep(calls: &mut Vec<Call>, thread: ObjId, entry: Entry, outcome: Outcome)
 impl<G: Ledger> CoreSeat<G> {
     ghost use Rattle.mcs_seats.specs.Seats.{Enters, told};
 
-    /// A seat with one part of the ledger.
+    /// Returns a seat with a share of the ledger.
     pub fn new(alloc: Global, core: CoreId, share: Share<G>) -> CoreSeat<G>
         requires parts { share.parts ≡ 1 }
         requires amount { share.amount ≡ 0 }
@@ -70,14 +70,14 @@ impl<G: Ledger> CoreSeat<G> {
         self.core
     }
 
-    /// All calls in their order, but those for which memory was refused.
+    /// Returns all calls in order, except those that failed with OutOfMemory.
     pub fn calls(&self) -> &[Call]
         ensures { result.now ≡ reverse self.now.calls }
     {
         self.calls.as_slice()
     }
 
-    /// Its share of the ledger, when the seat is gone.
+    /// Returns its share of the ledger, and drops the seat.
     pub(crate) fn into_share(self) -> Share<G>
         ensures parts { result.parts ≡ 1 }
         ensures amount { result.amount ≡ told self.calls }
@@ -90,9 +90,9 @@ impl<G: Ledger> CoreSeat<G> {
         share
     }
 
-    /// Makes what a call of the seat needs before the kernel's lock is taken: room for the call, a
-    /// copy of the entry, and for an entry that receives room for a copy of its answer. OutOfMemory
-    /// where one of them is refused.
+    /// Allocates what a call of the seat needs before the kernel's lock is taken: room for the
+    /// call, a copy of the entry, and for an entry that receives room for a copy of its answer.
+    /// `OutOfMemory` if an allocation fails.
     pub fn prepare(&mut self, alloc: Global, entry: Entry) -> Result<Prepared, OutOfMemory>
         ensures same { self.new ≡ self.old }
         ensures entry { IfOk result (λ p. p ≡ entry) }
@@ -101,10 +101,9 @@ impl<G: Ledger> CoreSeat<G> {
         Prepared::new(alloc, entry)
     }
 
-    /// Lets in an entry of a thread on the seat's core, or turns it away, as Kernel::enter does;
-    /// the seat keeps the entry and what became of it. OutOfMemory where the seat has no room for
-    /// the call, which `prepare` makes, or the kernel gets none: then seat and kernel are as they
-    /// were.
+    /// Performs or skips an entry of a thread on the seat's core, as `Kernel::enter` does; the seat
+    /// keeps the entry and its outcome. `OutOfMemory` if the seat has no room for the call, which
+    /// `prepare` makes, or an allocation of the kernel fails: then seat and kernel are unchanged.
     pub fn enter<L: Lines>(
         &mut self,
         alloc: Global,

@@ -1,4 +1,4 @@
-//! Whether the seats of a machine agree with its book (own).
+//! Checks whether the seats of a machine agree with its book (own).
 ghost use Rattle.std.specs.Prelude.{◌≡◌, ◌==◌, IfOk, IfErr, IsTrue, ◌↔◌, OnOk, true, false};
 ghost use Rattle.std.specs.List.{list_any};
 ghost use Rattle.mcs_book.specs.History.{IsLegal};
@@ -23,20 +23,20 @@ pub enum FinishFault {
     /// The machine did not begin with the boot given.
     OtherBoot,
     /// The n-th call of a core, counted from 1, is the first that does not agree with the book; one
-    /// more than it made, where it was not told all lines of its own.
+    /// more than it made, if it lacks a line of its core.
     Torn { core: CoreId, n: usize },
     /// A growth was refused.
     OutOfMemory,
 }
 
-/// Whether a core has a seat.
+/// Returns whether a core has a seat.
 fn has_seat<G: Ledger>(seats: &Vec<CoreSeat<G>>, core: u8) -> bool
     ensures { result ≡ list_any (λ s. s.core.0 == core) seats.now.items }
 {
     seats.iter().any(|seat| seat.core().0 == core)
 }
 
-/// Whether each core has a seat.
+/// Returns whether each core has a seat.
 fn has_seats<G: Ledger>(seats: &Vec<CoreSeat<G>>, book: &Book) -> bool
     ensures all { result ≡ true → HasSeats book.now.book seats.now.items }
     ensures lacks { result ≡ false → LacksSeat book.now.book seats.now.items }
@@ -49,14 +49,14 @@ fn has_seats<G: Ledger>(seats: &Vec<CoreSeat<G>>, book: &Book) -> bool
     true
 }
 
-/// Whether two lines of a boot are the same.
+/// Returns whether two lines of a boot are the same.
 fn is_same_line(one: &BootLine, other: &BootLine) -> bool
     ensures { IsTrue result ↔ (one.now ≡ other.now) }
 {
     *one == *other
 }
 
-/// Whether two boots have the same lines.
+/// Returns whether two boots have the same lines.
 fn are_same_lines(one: &[BootLine], other: &[BootLine]) -> bool
     ensures { IsTrue result ↔ (one.now ≡ other.now) }
 {
@@ -71,7 +71,7 @@ fn are_same_lines(one: &[BootLine], other: &[BootLine]) -> bool
     true
 }
 
-/// Whether a book begins with a boot.
+/// Returns whether a book begins with a boot.
 fn begins_with(book: &Book, boot: &Boot) -> bool
     ensures { IsTrue result ↔ (book.now.book.boot ≡ boot.now) }
 {
@@ -136,12 +136,11 @@ impl<L: Lines> Settled<L> {
     }
 }
 
-/// Settles a kernel with these seats: its book is legal and fair, it begins with the boot given,
-/// and each seat was told its core's lines and no other, in order, with their numbers and answers,
-/// and was skipped rightly. MissingSeat (1) where a core of the book has no seat, OtherBoot (2)
-/// where the book begins otherwise, Torn (3) with the first call of a core that does not agree,
-/// tested in this order; OutOfMemory (4) where a growth was refused. On a fault nothing is handed
-/// back.
+/// Settles a kernel with these seats: its book is legal and fair, it begins with the given boot,
+/// and each seat has its core's lines and no others, in order, with their numbers and answers, and
+/// was skipped rightly. MissingSeat (1) if a core of the book has no seat, OtherBoot (2) if the
+/// book begins otherwise, Torn (3) with the first call of a core that does not agree, tested in
+/// this order; OutOfMemory (4) if an allocation fails. After a fault nothing is returned.
 pub fn settle_seats<G: Ledger, L: Lines>(
     alloc: Global,
     kernel: Kernel<L>,

@@ -182,9 +182,9 @@ longer-begins None k is = (trace_of k, refl)
 longer-begins (Some b) None is = absurd is
 longer-begins (Some b) (Some c) is = (_, trace-more b c is.1.0 is.0 is.1.1)
 
--- ---- what was told
+-- ---- what was written
 
--- a line more of those that were not told
+-- a line more of those that were not written
 pub lines-next : (d : ℕ) (xs : List Line) (i : ℕ) (x : Line) → d + 1 ≤ i → Some x ≡ (if i == 0 then None else slice_get xs (i - 1)) → take (i + 1 - 1 - d) (drop d xs) ≡ take (i - 1 - d) (drop d xs) ++ x ∷ []
 lines-next d xs i x le is =
     let other : eqb i 0 ≡ false = ne_eqb _ _ (λ e. omega (arith, le, e)) in
@@ -209,7 +209,7 @@ lines-all b t n is =
     let count : n - 1 - (t.lines - 1) ≡ length (reverse b.lines) - (t.lines - 1) = omega (arith, is, length-reverse b.lines) in
     ap (λ (m : ℕ). take m (untold_lines t b)) count ∙ take_rest (reverse b.lines) (t.lines - 1)
 
--- what is told with what was not told is the trace
+-- what was written and what was not are the trace together
 pub told-more : (t : Told) (j k : Option Book) → IsToldBy t j → IsLonger j k → trace_of k ≡ trace_of j ++ untold_of t k
 unfolding untold trace
 told-more t None None told longer = refl
@@ -237,7 +237,7 @@ told-of t b (Some a, told, longer) =
       all = ap (λ (t : Told). sent_in t.sent (untold_lines t b)) told.is ∙ ap (sent_in (sent_in 0 (reverse a.lines))) lines ∙ sym (sent-more a b longer.1.0 longer.1.1);
     }
 
--- where nothing was told, all of the trace was not
+-- if nothing was written, all of the trace is left
 pub untold-all : (t : Told) (b : Book) → t ≡ told_of None → untold t b ≡ trace b
 unfolding untold trace
 untold-all t b is = ap (λ (t : Told). untold t b) is

@@ -41,7 +41,7 @@ step-read cores threads number line s is = go (says_something number line) is
     go (Ok false) is = absurd cc
     go (Ok true) is = step-spelled cores threads line (words_of line) s is
 
--- where all of a book was told, no line of it was not
+-- if all of a book was written, no line of it is left
 same-read : (text : List ℕ) (t : Told) (k : Option Book) → IsToldBy t k → IsReadOfAny text t k
 same-read text t None told = tt
 same-read text t (Some b) told = λ l some is.
@@ -49,7 +49,7 @@ same-read text t (Some b) told = λ l some is.
     let none : untold_lines t b ≡ [] = ap (λ (t : Told). untold_lines t b) told.is ∙ ap (λ (n : ℕ). drop n (reverse b.lines)) count ∙ drop-more b b [] refl in
     absurd (let other : [] ≡ l ∷ [] = sym none ∙ is in cc)
 
--- nothing was told
+-- nothing was written
 none-read : (text : List ℕ) (t : Told) (k : Option Book) → IsToldBy t None → IsReadOfAny text t k
 none-read text t None told = tt
 none-read text t (Some b) told = λ l some is. absurd (omega (arith, some, ap (λ (t : Told). t.lines) told.is))
@@ -115,7 +115,7 @@ pub line-read : (c d : Course) (line : List ℕ) (t : Told) → TakesLine c line
 line-read c d line t (inl is) told = subst (λ (c : Course). IsReadOfAny line t c.stands.book) (sym is) (with_line-read c line t told)
 line-read c d line t (inr is) told = subst (λ (c : Course). IsReadOfAny line t c.stands.book) (sym is) (same-read line t c.stands.book told)
 
--- the last line of a book, before which all were told
+-- the last line of a book, before which all were written
 pub last-untold : (b : Book) (t : Told) (l : Line) → 0 < t.lines → t.lines ≡ length b.lines → Some l ≡ line_of_number b t.lines → untold_lines t b ≡ l ∷ []
 last-untold b t l some last is =
     let one : t.lines + 1 - 1 - (t.lines - 1) ≡ 1 = omega (arith, some) in
@@ -124,7 +124,7 @@ last-untold b t l some last is =
     let next = lines-next (t.lines - 1) (reverse b.lines) t.lines l (omega (arith, some)) is in
     sym all ∙ next ∙ ap (λ (n : ℕ). take n (untold_lines t b) ++ l ∷ []) none
 
--- so it is what was not told
+-- so it is what was not written
 pub untold-last : (b : Book) (t : Told) (l : Line) → 0 < t.lines → t.lines ≡ length b.lines → Some l ≡ line_of_number b t.lines → line_trace t.sent l ≡ untold t b
 unfolding untold
 untold-last b t l some last is =

@@ -1,4 +1,4 @@
--- What is written of a replay that goes on is a beginning of what is written of its text, and all
+-- What is written of a replay that continues is a beginning of what is written of its text, and all
 -- of it in the end.
 use Rattle.std.proofs.Common.{◌≡◌, ℕ, ◌+◌, ◌≤◌, ◌⊎◌, inl, inr, Option, Some, None, List, [], ◌∷◌, ◌++◌, refl, sym, ap, subst, ◌∙◌, append_assoc, append-nil, length, arith}
 use Rattle.std.specs.Io.KnownBytes.{Appends, Consumes, IsAtEnd}

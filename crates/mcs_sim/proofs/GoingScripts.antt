@@ -161,7 +161,7 @@ after-step n b ss y boot none roomy = go (is_full_for (book_of b ss) y) refl
         (λ i. Ok (record { boot = none i; book = Some (sym (book_of-end b ss y) i) })) ∙ same in
         inl (record { known = known ss; roomy = roomy-end ss 0 (begun_by b) y roomy e; standing = all })
 
--- a line while the boot goes on
+-- a line while the boot continues
 after-opening : (n : ℕ) (boot : Option Boot) (q : Result (Script Step) LineFault) → IsOpening boot q → AfterRead n (record { boot = boot; items = [] }) (after_boot_line (read_at n q)) q
 unfolding book_of
 after-opening n boot (Err e) is = refl
@@ -435,7 +435,7 @@ follows [] s m p known roomy plain =
     subst (λ (text : List ℕ). ComesOfScript (script_from of_steps s (m + 1) (lines_of text)) (boot_ended (with_last (live s m) p))) (sym (append-nil p)) (follows-end s m p known roomy plain)
 follows (b ∷ bs) s m p known roomy plain = follows-next b bs (follows bs) s m p known roomy plain
 
--- the law: a text that is taken byte by byte comes to what is read of it as a whole
+-- the law: a text that is taken byte by byte gives what is read of it as a whole
 pub fed-as-read : (text : List ℕ) → ComesOfScript (steps text) (ended (fed (at_line no_line) text))
 unfolding script_of Follows Plain
 fed-as-read text = follows text no_script 0 [] tt tt tt

@@ -51,7 +51,7 @@ unfolding fed
 takes-line g part c goes plain (inl is) = inl (ap at_line is ∙ sym (fed-line g part goes plain))
 takes-line g part c goes plain (inr is) = inr (record { before = []; after = part ++ 10 ∷ []; split = refl; goes = goes; stopped = ap at_line is })
 
--- a replay that goes on, by its fields
+-- a replay that continues, by its fields
 pub record IsGoing (fault : Option SimFault) (s : BootOrBook) (lines : ℕ) (line : List ℕ) (g : Going) : Type 0 where
   pub goes : fault ≡ None
   pub stands : s ≡ g.course.stands

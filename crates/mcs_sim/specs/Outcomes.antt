@@ -40,7 +40,7 @@ pub record IsTakenToFull (t : Script Step) (c : Course) : Type 0 where
   pub ended : c.fault ≡ Some fault.BookFull
   pub book : c.stands.book ≡ (boot_or_book_of t.boot before).book
 
--- what comes of a script with its first faulty line, if it has one
+-- the course that a script gives, with its first faulty line, if it has one
 abbrev pub ComesOfScript : Script Step × Option (ℕ × LineFault) → Course → Type 0
 ComesOfScript (t, None) c = IsTaken t c ⊎ IsTakenToFull t c
 ComesOfScript (t, Some (line, why)) c = IsTakenTo line why t c ⊎ IsTakenToFull t c

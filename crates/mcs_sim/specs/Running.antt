@@ -20,7 +20,7 @@ use Rattle.mcs_sim.specs.Trace.{trace}
 use Rattle.mcs_sim.specs.Runs.{Begins}
 
 -- all of an input was read, in which nothing is wrong: it says this boot and these entries, where
--- so many cores were asked for
+-- this many cores were asked for
 pub record Reads (asked : Option ℕ) (left left' : Option (List ℕ)) (boot : Boot) (entries : List UserEntry) : Type 0 where
   pub text : List ℕ
   pub read : Consumes left left' text

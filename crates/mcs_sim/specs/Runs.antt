@@ -67,12 +67,12 @@ abbrev pub IsFairRun : Option Boot → List Step → Type 0
 IsFairRun None ss = Unit {0}
 IsFairRun (Some b) ss = IsLegal (book_of b ss) × IsFair (book_of b ss)
 
--- so is the book whose trace is written before a faulty line
+-- the book whose trace is written before a faulty line is fair
 abbrev pub IsFairBefore : Option Boot → List Step → Type 0
 IsFairBefore b [] = Unit {0}
 IsFairBefore b (s ∷ ss) = IsFairRun b (s ∷ ss)
 
--- what a run of a text leaves that ended early, but for a read fault: all that is told before a
+-- what a run of a text leaves that ended early, but for a read fault: all that is written before a
 -- faulty line, or a beginning of that
 abbrev pub Leaves : SimFault → (old new : Option (List ℕ)) (text : List ℕ) → Type 0
 Leaves fault.Argument old new text = ⊥
@@ -137,9 +137,9 @@ abbrev pub WritesLines : (old new : Option (List ℕ)) (text : List ℕ) → Typ
 WritesLines old new text = Appends old new (trace_of (fed (at_line no_line) text).course.stands.book)
 
 -- what a run leaves that ended early: it read a text, and left what the text gives before the
--- fault; a line's fault is what is wrong with the text, whatever follows. Where a read fails the
--- trace of all lines before it was written, and that is a beginning of what the text gives; after a
--- fault of writing, or a refusal of memory, a beginning of that was written
+-- fault; a line's fault is the fault of the text, whatever follows. Where a read fails the trace of
+-- all lines before it was written, and that is a beginning of what the text gives; after a fault of
+-- writing, or a refusal of memory, a beginning of that was written
 abbrev pub Ends : SimFault → (left left' out out' : Option (List ℕ)) → Type 0
 Ends (fault.Script line why) left left' out out' = (text : List ℕ) × ReadsText left left' text × IsNamed left' text line why × Leaves (fault.Script line why) out out' text
 Ends fault.Read left left' out out' = (text : List ℕ) × ReadsText left left' text × WritesLines out out' text × Begins out out' (written text)

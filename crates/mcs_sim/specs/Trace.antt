@@ -27,7 +27,7 @@ sent_in n (l ∷ ls) = sent_in (sent_after n l.records) ls
 abbrev pub boot_lines_trace : List BootLine → List ℕ
 boot_lines_trace lines = flat_map boot_text lines
 
--- records in order, before which so many messages were sent
+-- records in order, before which this many messages were sent
 abbrev pub records_trace : ℕ → List Rec → List ℕ
 records_trace n [] = []
 records_trace n (r ∷ rs) = record_text n r ++ records_trace (sent_with n r) rs
@@ -50,8 +50,8 @@ abbrev pub trace_of : Option Book → List ℕ
 trace_of None = []
 trace_of (Some b) = trace b
 
--- all of a trace was told: so many lines, with that of the boot, and so many messages sent with
--- them
+-- all of a trace was written: this many lines, with that of the boot, and this many messages sent
+-- with them
 abbrev pub all_told : Book → Told
 all_told b = record { lines = length b.lines + 1; sent = sent_in 0 (reverse b.lines) }
 
@@ -60,7 +60,7 @@ abbrev pub told_of : Option Book → Told
 told_of None = record { lines = 0; sent = 0 }
 told_of (Some b) = all_told b
 
--- the lines of a book after those that were told
+-- the lines of a book after those that were written
 abbrev pub untold_lines : Told → Book → List Line
 untold_lines t b = drop (t.lines - 1) (reverse b.lines)
 
@@ -70,19 +70,20 @@ IsLonger None k = Unit {0}
 IsLonger (Some b) None = ⊥
 IsLonger (Some b) (Some c) = (c.boot ≡ b.boot) × ((more : List Line) × (c.lines ≡ more ++ b.lines))
 
--- this was told: all of a book, if there is one
+-- this was written: all of a book, if there is one
 pub record IsToldBy (t : Told) (k : Option Book) : Type 0 where
   pub is : t ≡ told_of k
   pub fits : t.sent ≤ (t.lines - 1) * 2 ^ 64
 
--- so much was told of a beginning of a book, or nothing; no line has more messages than 64 bits can
--- count
+-- this much was written of a beginning of a book, or nothing; no line has more messages than 64
+-- bits can count
 pub record IsToldOf (t : Told) (b : Book) : Type 0 where
   pub fits : t.sent ≤ (t.lines - 1) * 2 ^ 64
   pub few : t.lines ≤ length b.lines + 1
   pub all : sent_in t.sent (untold_lines t b) ≡ sent_in 0 (reverse b.lines)
 
--- where a book has a single line more than those that were told, its step has this text as its line
+-- where a book has a single line more than those that were written, its step has this text as its
+-- line
 abbrev pub IsReadOf : List ℕ → Told → Book → Type 0
 IsReadOf text t b = (l : Line) → 0 < t.lines → untold_lines t b ≡ l ∷ [] → step_text l.step ≡ text ++ 10 ∷ []
 
@@ -91,11 +92,11 @@ abbrev pub IsReadOfAny : List ℕ → Told → Option Book → Type 0
 IsReadOfAny text t None = Unit {0}
 IsReadOfAny text t (Some b) = IsReadOf text t b
 
--- the lines of the boot, where nothing was told
+-- the lines of the boot, where nothing was written
 abbrev pub untold_boot : Told → Book → List ℕ
 untold_boot t b = if t.lines == 0 then cores_text b.boot.cores ++ boot_lines_trace (reverse b.boot.lines) else []
 
--- what of a book's trace was not told
+-- what of a book's trace was not written
 unfoldable pub untold : Told → Book → List ℕ
 untold t b = untold_boot t b ++ lines_trace t.sent (untold_lines t b)
 
@@ -104,6 +105,6 @@ abbrev pub untold_of : Told → Option Book → List ℕ
 untold_of t None = []
 untold_of t (Some b) = untold t b
 
--- this was told: all of a book of which this one is the same or longer
+-- this was written: all of a book of which this one is the same or longer
 abbrev pub IsToldUpTo : Told → Option Book → Type 0
 IsToldUpTo t k = (j : Option Book) × IsToldBy t j × IsLonger j k

@@ -10,8 +10,8 @@ use Rattle.mcs_phases.specs.declared.fault.SimFault.TheVariants as fault
 use Rattle.mcs_phases.specs.Script.{Script, no_script, of_users, script_from, users}
 use Rattle.mcs_phases.specs.Going.{HasNoNewline}
 
--- what the lines that have ended said, where so many cores may be asked for, how many they are, and
--- the bytes of the line that has not ended
+-- what the lines that have ended said, where this many cores may be asked for, how many they are,
+-- and the bytes of the line that has not ended
 pub record Users : Type 0 where
   pub asked : Option ℕ
   pub script : Script UserEntry

@@ -13,9 +13,8 @@ use std::alloc::Global;
 use std::marker::Model;
 use std::mem;
 
-/// A replay of a script of steps that comes in pieces: it holds the boot until that has ended, then
-/// the book, and of the text no more than the line that has not ended (own). Once a fault has ended
-/// it, it takes no byte any more.
+/// A replay of a script of steps that comes in pieces. It holds the boot until that has ended, then
+/// the book, and of the text only the current line (own). After a fault it takes no more bytes.
 #[derive(Drop)]
 pub struct ReplayRun {
     phase: Phase,
@@ -39,7 +38,7 @@ impl Model for ReplayRun {
 }
 
 impl ReplayRun {
-    /// A replay of no byte. It takes the room for one line.
+    /// Returns a replay of no bytes. It allocates room for one line.
     pub fn new(alloc: Global) -> Result<ReplayRun, OutOfMemory>
         ensures { IfOk result (λ r. r ≡ at_line no_line) }
     {
@@ -52,7 +51,7 @@ impl ReplayRun {
         })
     }
 
-    /// The kernel after the steps so far; None until the boot has ended, which its first step does,
+    /// Returns the kernel after the steps so far; None until the boot has ended, by the first step
     /// or the end of the input.
     pub fn kernel(&self) -> Option<&Kernel<LinkedLines>>
         ensures { option_copied result ≡ self.now.course.stands.book }
@@ -60,7 +59,7 @@ impl ReplayRun {
         self.phase.kernel()
     }
 
-    /// The book of the steps so far; None until the boot has ended, which its first step does, or
+    /// Returns the book of the steps so far; None until the boot has ended, by the first step or
     /// the end of the input.
     pub fn book(&self) -> Option<&Book>
         ensures lent { book_lent result ≡ self.now.course.stands.book }
@@ -72,14 +71,14 @@ impl ReplayRun {
         Some(kernel.book())
     }
 
-    /// Whether no fault has ended it.
+    /// Returns whether no fault has ended it.
     pub(crate) fn goes_on(&self) -> bool
         ensures { result ≡ true → self.now.course.fault ≡ None }
     {
         self.fault.is_none()
     }
 
-    /// Whether it is amid a line: a part of it is kept.
+    /// Returns whether the input so far ends within a line.
     pub(crate) fn is_amid(&self) -> bool
         ensures { result ≡ false → self.now.line ≡ [] }
     {
@@ -96,7 +95,7 @@ impl ReplayRun {
         Err(fault)
     }
 
-    /// Ends the replay with a fault of the line that has not ended.
+    /// Ends the replay with a fault of the current line.
     fn refuse(&mut self, why: LineFault) -> Result<(), SimFault>
         requires goes { self.old.course.fault ≡ None }
         ensures ended { self.new ≡ at_line (refused_for why self.old.course) }
@@ -128,7 +127,7 @@ impl ReplayRun {
         }
     }
 
-    /// Takes a line of which nothing was kept.
+    /// Takes a whole line.
     #[tactic(auto, unfolding(mcs_phases::specs::Going::with_line))]
     pub(crate) fn take_line(&mut self, alloc: Global, line: &[u8]) -> Result<(), SimFault>
         requires goes { self.old.course.fault ≡ None }
@@ -175,7 +174,7 @@ impl ReplayRun {
         self.take_kept(alloc)
     }
 
-    /// Ends the boot at the end of the input, where no step did.
+    /// Ends the boot at the end of the input, if no step did.
     #[tactic(auto, unfolding(mcs_phases::specs::Going::boot_ended))]
     fn end_boot(&mut self, alloc: Global) -> Result<(), SimFault>
         requires goes { self.old.course.fault ≡ None }
@@ -191,10 +190,9 @@ impl ReplayRun {
         Ok(())
     }
 
-    /// Takes a piece of the input, whose end may be anywhere in a line. Fault Script comes at the
-    /// latest with the newline of its line, its 4,097th byte, or the first byte of line 2,000,001.
-    /// After a fault the book is that of the steps before it, and each later call answers the same
-    /// fault.
+    /// Takes a piece of the input, which may end within a line. Fault Script comes at the latest
+    /// with the newline of its line, its 4,097th byte, or the first byte of line 2,000,001. After a
+    /// fault the book is that of the steps before it, and each later call returns the same fault.
     pub fn feed(&mut self, alloc: Global, piece: &[u8]) -> Result<(), SimFault>
         ensures takes { Takes self.old piece.now self.new }
         ensures told { result ≡ answer_of self.new.course.fault }
@@ -210,8 +208,8 @@ impl ReplayRun {
         self.keep(rest)
     }
 
-    /// Ends the input: a last line may lack its newline, and where no step came the boot ends here.
-    /// Fault Script with NoCores (1) where no line said the number of cores.
+    /// Ends the input: a last line may lack its newline, and without a step the boot ends here.
+    /// Fault `Script` with `NoCores` (1) if no line said the number of cores.
     pub fn end(&mut self, alloc: Global) -> Result<(), SimFault>
         ensures takes { TakesEnd self.old self.new }
         ensures told { result ≡ answer_of self.new.course.fault }
@@ -226,7 +224,7 @@ impl ReplayRun {
         self.end_boot(alloc)
     }
 
-    /// Takes a piece of the input, or its end where the piece is empty.
+    /// Takes a piece of the input, or its end if the piece is empty.
     pub fn take_piece(&mut self, alloc: Global, piece: &[u8]) -> Result<(), SimFault>
         ensures takes { TakesPiece self.old piece.now self.new }
         ensures told { result ≡ answer_of self.new.course.fault }

@@ -8,7 +8,7 @@ ghost use Rattle.mcs_phases.specs.Script.{steps, users};
 ghost use Rattle.mcs_phases.specs.Going.{Going, at_line, ended, fed, no_line};
 ghost use Rattle.mcs_sim.specs.Outcomes.{ComesOfScript};
 
-/// The book that steps make after a boot is legal, where nothing is wrong with the boot and the
+/// Law: the book of steps after a boot is legal, if each line of the boot passes all checks and the
 /// numbers of each step are in their ranges.
 pub fn replayed_legal()
     ghost run: { Boot × List Step }
@@ -17,8 +17,8 @@ pub fn replayed_legal()
     ensures { IsLegal (book_of run.0 run.1) }
 {}
 
-/// What a text says that is too long for a script is the same whatever bytes follow it: the same
-/// boot, steps and fault, and so with the entries of users.
+/// Law: a text that is too long for a script gives the same boot, steps and fault whatever bytes
+/// follow it; so do texts of users.
 pub fn too_long_stands()
     ghost at: { List ℕ × List ℕ }
     requires { IsTooLong at.0 }
@@ -26,15 +26,15 @@ pub fn too_long_stands()
     ensures users { (asked : Option ℕ) → users asked (at.0 ++ at.1) ≡ users asked at.0 }
 {}
 
-/// Going on by a text and then by another is going on by both, so that it does not matter how the
-/// bytes of a script were cut.
+/// Law: feeding a text and then another gives what feeding both together gives, so the cuts of a
+/// script do not matter.
 pub fn fed_in_pieces()
     ghost at: { Going × List ℕ × List ℕ }
     ensures { fed at.0 (at.1 ++ at.2) ≡ fed (fed at.0 at.1) at.2 }
 {}
 
-/// A script that is taken byte by byte comes to what is read of it as a whole: to the book of its
-/// steps, to its first faulty line, or to the step for which the book is full.
+/// Law: a script fed byte by byte gives what it gives as a whole: the book of its steps, its first
+/// faulty line, or the step for which the book is full.
 pub fn fed_as_read()
     ghost text: { List ℕ }
     ensures { ComesOfScript (steps text) (ended (fed (at_line no_line) text)) }

@@ -7,13 +7,13 @@
 //! Book -> Sink -> writer
 //! ```
 //!
-//! The upper way is `simulate`: `feeding` cuts pieces into lines and keeps the first fault, `Phase`
-//! takes a line (the boot so far, or from its end on the run of the steps), and `replaying` writes
-//! what each piece adds to the trace before it reads on. The lower way is `run_text`: `users` reads
-//! to the end, and `running` runs what all users said on a machine and writes then. `Source` tries
-//! a read again that is interrupted, `Script` says what a line says, and `writing` writes the trace
-//! of a book, or what of it was not written. `startup` tells how the program ends. `laws` has what
-//! holds of all texts, however they are cut.
+//! The upper path is `simulate`: `feeding` cuts pieces into lines and keeps the first fault,
+//! `Phase` takes a line (of the boot, or a step after it), and `replaying` writes what each piece
+//! adds to the trace before it reads on. The lower path is `run_text`: `users` reads to the end,
+//! and `running` runs all users on a machine and then writes. `Source` retries interrupted reads,
+//! `Script` reads lines, and `writing` writes the trace of a book, or what of it was not written
+//! yet. `startup` decides how the program ends. `laws` has what holds of all texts, however they
+//! are cut.
 #![tactic(auto)]
 
 mod feeding;

@@ -16,7 +16,7 @@ use std::alloc::Global;
 use std::io::{Read, Write};
 use std::marker::Model;
 
-/// Puts what of a run's book was not written yet, if it has one.
+/// Writes what of a run's book was not written yet, if it has one.
 #[tactic(auto, using(crate::proofs::TraceLaws::puts_nothing))]
 fn put_more<W: Write>(to: &mut Sink<W>, told: &mut Told, run: &ReplayRun)
     requires told { IsToldUpTo told.old run.now.course.stands.book }
@@ -29,8 +29,8 @@ fn put_more<W: Write>(to: &mut Sink<W>, told: &mut Told, run: &ReplayRun)
     }
 }
 
-/// Puts what of a run's book was not written yet, if it has one, where the step of a single line
-/// more was read of this text.
+/// Writes what of a run's book was not written yet, if it has one; the step of a single new line
+/// was read from this text.
 #[tactic(auto, using(crate::proofs::TraceLaws::puts_nothing))]
 fn put_line<W: Write>(to: &mut Sink<W>, told: &mut Told, run: &ReplayRun, text: &[u8])
     requires told { IsToldUpTo told.old run.now.course.stands.book }
@@ -43,7 +43,7 @@ fn put_line<W: Write>(to: &mut Sink<W>, told: &mut Told, run: &ReplayRun, text: 
     }
 }
 
-/// A replay of a script that comes in pieces, whose trace goes out with each.
+/// A replay of a script that comes in pieces, and writes its trace with each.
 #[derive(Drop)]
 pub struct TracedRun {
     run: ReplayRun,
@@ -62,7 +62,7 @@ impl Model for TracedRun {
 }
 
 impl TracedRun {
-    /// A replay of no byte, of which nothing was written.
+    /// Returns a replay of no bytes, with nothing written.
     pub fn new(alloc: Global) -> Result<TracedRun, OutOfMemory>
         ensures { IfOk result (λ r. r ≡ at_line no_line) }
     {
@@ -73,7 +73,7 @@ impl TracedRun {
         })
     }
 
-    /// Takes the rest of a line, and its newline, and puts what that adds to the trace.
+    /// Takes the rest of a line and its newline, and writes what they add to the trace.
     fn end_line<W: Write>(
         &mut self,
         alloc: Global,
@@ -97,8 +97,8 @@ impl TracedRun {
         taken
     }
 
-    /// Takes a piece of a script, and puts what each of its lines adds to the trace after it: the
-    /// text of a step is its line then.
+    /// Takes a piece of a script, and writes after each of its lines what that adds to the trace;
+    /// the text of a step is copied from its line.
     fn feed<W: Write>(
         &mut self,
         alloc: Global,
@@ -121,7 +121,7 @@ impl TracedRun {
         taken
     }
 
-    /// Takes a piece of a script, or its end where the piece is empty, and puts what it adds to the
+    /// Takes a piece of a script, or its end if the piece is empty, and writes what it adds to the
     /// trace.
     fn put_piece<W: Write>(
         &mut self,
@@ -149,11 +149,10 @@ impl TracedRun {
         let _ = self.run.book();
     }
 
-    /// Takes a piece of a script, or its end where the piece is empty, and writes what it adds to
-    /// the trace: the boot once that has ended, and each line of the book. So a caller that asks
-    /// for more only then has written the trace of all lines so far. Fault Write where a call of
-    /// the writer failed; else the fault of the script, after which the trace of the steps before
-    /// it is written.
+    /// Takes a piece of a script, or its end if the piece is empty, and writes what it adds to the
+    /// trace: the boot once that has ended, and each line of the book. So a caller has the trace of
+    /// all lines so far before it asks for more. Fault `Write` if a call of the writer failed; else
+    /// the fault of the script, after which the trace of the steps before it is written.
     pub fn take_piece<W: Write>(
         &mut self,
         alloc: Global,
@@ -179,15 +178,14 @@ impl TracedRun {
     }
 }
 
-/// Replays a script as it comes, and writes its trace: the boot once that has ended, and each line
-/// of the book once it is there. Before each read the trace of all lines that were read is written.
-/// After Ok the whole trace is written, of a book that is legal and fair. Where a line is faulty
-/// the trace of the steps before it is written, of such a book, and nothing where the fault is in
-/// the boot. After a read fault the trace of the lines read is written; after any other fault a
-/// beginning of the trace of the steps; BookFull comes only where the book is full at a step.
-/// Nothing is read after the piece of at most 4,096 bytes in which a fault is. A read or a write
-/// that is interrupted is tried again, at most 1,000 times in a row; a write that takes no byte is
-/// a fault.
+/// Replays a script as it comes, and writes its trace: the boot once that has ended, and each new
+/// line of the book. Before each read, the trace of all lines read is written. After Ok the whole
+/// trace is written, of a legal and fair book. If a line is faulty, the trace of the steps before
+/// it is written, of such a book, and nothing if the fault is in the boot. After a read fault the
+/// trace of the lines read is written; after any other fault a prefix of the trace of the steps.
+/// BookFull comes only if the book is full at a step. Nothing is read after the piece of at most
+/// 4,096 bytes that contains a fault. An interrupted read or write is retried at most 1,000 times
+/// in a row; a write of no bytes is a fault.
 pub fn simulate<R: Read, W: Write>(
     alloc: Global,
     from: &mut Source<R>,

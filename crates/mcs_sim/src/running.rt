@@ -1,5 +1,5 @@
-//! A script of users, from bytes to bytes: they run on a machine, and the trace of its book is
-//! written.
+//! A script of users, from bytes to bytes: runs them on a machine, and writes the trace of its
+//! book.
 ghost use Rattle.std.specs.Prelude.{◌≡◌, ◌≤◌, IfOk, IfErr, OnOk, Err};
 ghost use Rattle.mcs_book.specs.History.{IsLegal};
 ghost use Rattle.mcs_book.specs.Fair.{IsFair};
@@ -23,8 +23,8 @@ use std::sync::Wait;
 use std::sync::ledger::{Blank, Ledger};
 use std::thread::Threads;
 
-/// Reads the boot and the entries of users from a source, to its end or to a fault. The fault is
-/// reported with the piece in which it is found.
+/// Reads the boot and the entries of users from a source, to its end or to a fault. A fault is
+/// reported with the piece that contains it.
 fn read_users<R: Read>(
     alloc: Global,
     from: &mut Source<R>,
@@ -61,7 +61,7 @@ fn users_of(alloc: Global, entries: Vec<UserEntry>) -> Result<Users, OutOfMemory
     Ok(users)
 }
 
-/// How the program says why a run ended early.
+/// Returns the program's fault for a fault of a run.
 fn run_fault(fault: RunFault) -> SimFault
     ensures { result ≡ run_fault fault }
 {
@@ -72,7 +72,7 @@ fn run_fault(fault: RunFault) -> SimFault
     }
 }
 
-/// How the program says why a machine did not settle.
+/// Returns the program's fault for a machine that did not settle.
 fn finish_fault(fault: FinishFault) -> SimFault
     ensures { result ≡ finish_fault fault }
 {
@@ -132,16 +132,15 @@ fn run_users<X: Threads + Wait + Sync, T: Gate>(
 }
 
 /// Reads a boot and the entries of users, runs them on a machine with a host thread for each core,
-/// settles it, and writes the trace of its book. Where a number of cores is asked for, a script
-/// that says another is refused with fault Number at the line that says it. After Ok the whole
-/// trace is written, of a book that is legal and fair and begins with the boot that was read. After
-/// Write a beginning of such a trace is written, and after any other fault nothing: Script where a
-/// line is faulty, OutOfMemory where memory was refused while users were read or after that,
-/// BookFull where the book had no room for an entry, Failed where a host thread was not started or
-/// the book does not agree with the calls of the cores. Nothing is read after the piece of at most
-/// 4,096 bytes in which a fault is: that of a line comes with its newline, its 4,097th byte, or the
-/// first byte of line 2,000,001. The gate is called as `Machine::run` says. Reads and writes are
-/// tried again as `simulate` does.
+/// settles it, and writes the trace of its book. If a number of cores is asked for, a script with
+/// another number is refused with fault Number at the line that says it. After Ok the whole trace
+/// is written, of a legal and fair book that begins with the boot read. After Write a prefix of
+/// such a trace is written, and after any other fault nothing: `Script` if a line is faulty,
+/// `OutOfMemory` if an allocation fails, `BookFull` if the book had no room for an entry, `Failed`
+/// if a host thread was not started or the book does not agree with the calls of the cores. Nothing
+/// is read after the piece of at most 4,096 bytes that contains a fault: that of a line comes with
+/// its newline, its 4,097th byte, or the first byte of line 2,000,001. The gate is called as
+/// `Machine::run` says. Reads and writes are retried as `simulate` does.
 pub fn run_text<R: Read, W: Write, X: AllocGlobal + Threads + Wait + Sync, T: Gate>(
     rt: &X,
     from: &mut Source<R>,

@@ -1,4 +1,4 @@
-//! The arguments of the program, and how it ends where they ask for no run.
+//! The arguments of the program, and how it ends if they ask for no run.
 ghost use Rattle.std.specs.Prelude.{◌≡◌, IfErr};
 ghost use Rattle.clap.specs.Words.{kind_of};
 ghost use Rattle.std.specs.IoError.{error_kind};
@@ -11,7 +11,7 @@ use std::alloc::AllocGlobal;
 use std::env::{self, Env};
 use std::io;
 
-/// Why arguments cannot be read: a refusal of memory, or one that is not UTF-8.
+/// Returns the fault for unreadable arguments: a failed allocation, or one that is not UTF-8.
 fn reading_fault(error: &io::Error) -> SimFault
     ensures { result ≡ reading_fault (error_kind error.now) }
 {
@@ -21,8 +21,8 @@ fn reading_fault(error: &io::Error) -> SimFault
     }
 }
 
-/// The arguments in order; the first is the program's name. Fault Argument where one is not UTF-8,
-/// OutOfMemory where memory is refused.
+/// The arguments in order; the first is the program's name. Fault `Argument` if one is not UTF-8,
+/// `OutOfMemory` if an allocation fails.
 pub fn arguments<R: Env + AllocGlobal>(rt: &R) -> Result<Vec<String>, SimFault>
     ensures { IfErr result IsOfArguments }
 {
@@ -33,8 +33,8 @@ pub fn arguments<R: Env + AllocGlobal>(rt: &R) -> Result<Vec<String>, SimFault>
     Ok(all)
 }
 
-/// The exit status of the program where the command line asks for no run: 0 where it asks for the
-/// help or the version, else that of a fault.
+/// Returns the exit status if the command line asks for no run: 0 if it asks for the help or the
+/// version, else that of a fault.
 pub fn answer_status(answer: &Error) -> u8
     ensures { result ≡ answer_status (kind_of answer.now) }
 {

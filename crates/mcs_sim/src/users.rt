@@ -1,4 +1,4 @@
-//! The lists of users, from text that comes in pieces.
+//! Reads the lists of users from text that comes in pieces.
 ghost use Rattle.std.specs.Prelude.{◌≡◌, ◌≤◌, ◌∷◌, [], ◌++◌, IfOk, IfErr, OnOk, Ok, Some, None};
 ghost use Rattle.mcs_phases.specs.Going.{HasNoNewline};
 ghost use Rattle.mcs_phases.specs.Script.{of_users, read_line};
@@ -12,8 +12,8 @@ use memchr::memchr;
 use std::alloc::Global;
 use std::marker::Model;
 
-/// What the lines of users that have ended said, where so many cores may be asked for, and of the
-/// text no more than the line that has not ended.
+/// The boot and entries of the lines so far, the number of cores asked for, if any, and of the text
+/// only the current line.
 #[derive(Drop)]
 pub struct UserLines {
     asked: Option<u8>,
@@ -59,7 +59,8 @@ fn read_user_line(
 }
 
 impl UserLines {
-    /// No byte, where so many cores may be asked for. It takes the room for one line.
+    /// Returns the state before any input, with the number of cores asked for, if any. It allocates
+    /// room for one line.
     pub fn new(alloc: Global, asked: Option<u8>) -> Result<UserLines, OutOfMemory>
         ensures { IfOk result (λ u. u ≡ no_users asked) }
     {
@@ -136,8 +137,8 @@ impl UserLines {
         self.take_kept(alloc)
     }
 
-    /// Takes a piece of the input, whose end may be anywhere in a line. Fault Script comes at the
-    /// latest with the newline of its line, its 4,097th byte, or the first byte of line 2,000,001.
+    /// Takes a piece of the input, which may end within a line. Fault Script comes at the latest
+    /// with the newline of its line, its 4,097th byte, or the first byte of line 2,000,001.
     pub fn feed(&mut self, alloc: Global, piece: &[u8]) -> Result<(), SimFault>
         ensures ok { OnOk result (TakesUsers piece.now self.old self.new) }
         ensures err { IfErr result (IsFaultIn piece.now self.old) }
@@ -151,7 +152,7 @@ impl UserLines {
         self.keep(rest)
     }
 
-    /// Takes the last line, which has no newline, if it is there.
+    /// Takes the last line, if the input ends without a newline.
     fn end_last(&mut self, alloc: Global) -> Result<(), SimFault>
         ensures ok { OnOk result (read_to_end self.old ≡ read_to_end self.new) }
         ensures empty { OnOk result (self.new.line ≡ []) }
@@ -163,7 +164,7 @@ impl UserLines {
         self.take_kept(alloc)
     }
 
-    /// The boot and the entries that all lines said. Fault Script with NoCores (1) where no line
+    /// Returns the boot and the entries of all lines. Fault `Script` with `NoCores` (1) if no line
     /// said the number of cores.
     fn into_said(self) -> Result<(Boot, Vec<UserEntry>), SimFault>
         requires { self.line ≡ [] }
@@ -191,8 +192,7 @@ impl UserLines {
         }
     }
 
-    /// The input has ended: the boot and the entries that it said. A last line may lack its
-    /// newline.
+    /// Ends the input, and returns its boot and entries. A last line may lack its newline.
     pub fn end(mut self, alloc: Global) -> Result<(Boot, Vec<UserEntry>), SimFault>
         ensures ok { IfOk result (λ r. read_to_end self
             ≡ (record { boot = Some r.0; items = r.1.items }, None)) }

@@ -24,7 +24,7 @@ pub fn put_boot<W: Write>(sink: &mut Sink<W>, lines: &[BootLine])
     }
 }
 
-/// How many messages were sent with a record more.
+/// Returns how many messages were sent after one more record.
 #[tactic(auto, using(crate::proofs::TraceLaws::sent_with_more))]
 fn count_sent(sent: u128, fact: &KeptRecord<'_>) -> u128
     requires { sent + 1 < 2 ^ 128 }
@@ -33,8 +33,8 @@ fn count_sent(sent: u128, fact: &KeptRecord<'_>) -> u128
     if fact.is_sent() { sent + 1 } else { sent }
 }
 
-/// Writes the records of a line before which so many messages were sent, and returns how many were
-/// sent with them. The text of a message is copied where its step was read.
+/// Writes the records of a line before which `sent` messages were sent, and returns how many were
+/// sent after it. The text of a message is copied from its step's line, if that was read.
 #[inline(always)]
 fn put_records<W: Write>(
     sink: &mut Sink<W>,
@@ -73,7 +73,7 @@ fn put_book_line<W: Write>(sink: &mut Sink<W>, sent: u128, line: &Line<'_>) -> u
     put_records(sink, sent, line, None)
 }
 
-/// Writes a line before which so many messages were sent, and whose step was read of this text, as
+/// Writes a line before which `sent` messages were sent, and whose step was read from this text, as
 /// `put_book_line` does.
 #[inline(always)]
 fn put_read_line<W: Write>(sink: &mut Sink<W>, sent: u128, line: &Line<'_>, text: &[u8]) -> u128
@@ -93,8 +93,8 @@ fn put_read_line<W: Write>(sink: &mut Sink<W>, sent: u128, line: &Line<'_>, text
     put_records(sink, sent, line, Some(&read))
 }
 
-/// How much of a book's trace was written: so many of its lines, with that of the boot, and so many
-/// messages sent with them.
+/// How much of a book's trace was written: how many of its lines, the boot's included, and how many
+/// messages were sent in them.
 #[derive(Clone, Copy)]
 pub struct Told {
     lines: usize,
@@ -102,7 +102,7 @@ pub struct Told {
 }
 
 impl Told {
-    /// Nothing of it.
+    /// Returns that nothing was written.
     pub fn nothing() -> Told
         ensures { result ≡ told_of None }
     {
@@ -110,9 +110,9 @@ impl Told {
     }
 }
 
-/// Puts the lines after those that were written, and returns how many messages were sent with all
-/// of them.
-// a part of its caller, as what it calls is: the parts of a line that is kept stay in registers
+/// Writes the lines after those already written, and returns how many messages were sent in all of
+/// them.
+// inlined, as what it calls: the parts of a packed line stay in registers
 #[inline(always)]
 fn put_lines<W: Write>(sink: &mut Sink<W>, told: Told, book: &Book) -> u128
     requires fits { told.sent ≤ (told.lines - 1) * 2 ^ 64 }
@@ -133,7 +133,7 @@ fn put_lines<W: Write>(sink: &mut Sink<W>, told: Told, book: &Book) -> u128
     sent
 }
 
-/// Puts the lines of the boot, where nothing was written.
+/// Writes the lines of the boot, if nothing was written yet.
 fn put_untold_boot<W: Write>(sink: &mut Sink<W>, told: Told, book: &Book)
     ensures { Puts W.contents sink.old sink.new (untold_boot told book.now.book) }
 {
@@ -144,7 +144,7 @@ fn put_untold_boot<W: Write>(sink: &mut Sink<W>, told: Told, book: &Book)
     put_boot(sink, book.boot());
 }
 
-/// Puts what of a book's trace was not written yet, so that all of it is.
+/// Writes what of a book's trace was not written yet.
 #[tactic(auto, unfolding(crate::specs::Trace::untold))]
 pub fn put_untold<W: Write>(sink: &mut Sink<W>, told: &mut Told, book: &Book)
     requires told { IsToldOf told.old book.now.book }
@@ -157,8 +157,8 @@ pub fn put_untold<W: Write>(sink: &mut Sink<W>, told: &mut Told, book: &Book)
     told.lines = book.lines();
 }
 
-/// Puts what of a book's trace was not written yet, as `put_untold` does. The step of a single line
-/// that the book has more was read of this text, which is its line, so it is not spelled again.
+/// Writes what of a book's trace was not written yet, as `put_untold` does. If the book has a
+/// single new line, its step was read from this text, which is copied.
 #[tactic(auto, unfolding(crate::specs::Trace::untold))]
 pub fn put_read<W: Write>(sink: &mut Sink<W>, told: &mut Told, book: &Book, text: &[u8])
     requires told { IsToldOf told.old book.now.book }
@@ -181,7 +181,7 @@ pub fn put_read<W: Write>(sink: &mut Sink<W>, told: &mut Told, book: &Book, text
 }
 
 /// Writes the trace of a book: its boot, and then for each line its step, its answer and its
-/// records. What the sink kept back is dropped first. Only the writer can fail it.
+/// records. Bytes that the sink had buffered are dropped first. It fails only if the writer does.
 pub fn trace<W: Write>(book: &Book, sink: &mut Sink<W>) -> Result<(), SimFault>
     ensures ok { OnOk result (Writes W.contents sink.old sink.new (trace book.now.book)) }
     ensures err { OnErr result (WritesPart W.contents sink.old sink.new (trace book.now.book)) }

@@ -32,7 +32,7 @@ mint_of S source dest rights badge = do
   need (cap.badge.0 == 0) BadgeNotAllowed
   Ok (badged cap rights badge)
 
--- done, or the refusal
+-- whether a copy is done, or the refusal
 abbrev pub answered : Checked Cap → Result (Unit {0}) Refusal
 answered (Ok cap) = Ok tt
 answered (Err why) = Err why

@@ -22,7 +22,7 @@ filled S at cap = fills_in S (at.cnode.serial - 1) at.index cap
 abbrev pub Fills : List Page → List Page → SlotId → Checked Cap → Type 0
 Fills old new at got = IfOk got (λ cap. new ≡ filled old at (Some cap))
 
--- it is in one slot, and another is empty
+-- a capability has moved: it is in one slot now, and the other is empty
 abbrev pub Moves : List Page → List Page → SlotId → SlotId → Checked Cap → Type 0
 Moves old new source dest got = IfOk got (λ cap. new ≡ filled (filled old dest (Some cap)) source None)
 

@@ -20,7 +20,7 @@ pub record TellsOf (S : List Page) (b : ℕ) (t : Tally) : Type 0 where
 abbrev pub Tells : List Tally → List Page → Type 0
 Tells T S = (b : ℕ) (t : Tally) → slice_get T b ≡ Some t → TellsOf S b t
 
--- the tally of a bucket where there was none yet
+-- the tally of a bucket if there was none yet
 abbrev pub no_tally : Tally
 no_tally = record { owner = 0; held = 0; total = 0 }
 
@@ -28,7 +28,7 @@ no_tally = record { owner = 0; held = 0; total = 0 }
 abbrev pub one_less : ObjId → Tally → Tally
 one_less o t = record t { held = cond (owns t.owner o) (t.held - 1) t.held; total = t.total - 1 }
 
--- the object is the owner from now on where there is none
+-- the object is the owner from now on if there is none
 abbrev pub taken_over : ObjId → Tally → Tally
 taken_over o t = cond (t.total == 0) (record { owner = o.serial; held = 0; total = 0 }) t
 
@@ -44,7 +44,7 @@ counted o t = record t { held = cond (owns t.owner o) (more_by_one t.held) t.hel
 abbrev pub one_more : ObjId → Tally → Tally
 one_more o t = counted o (taken_over o t)
 
--- the tally of bucket b is changed by f, where there is one, and no other
+-- the tally of bucket b is changed by f, if there is one, and no other
 pub record Retold (f : Tally → Tally) (b : ℕ) (old new : List Tally) : Type 0 where
   pub is : (tally : Tally) → slice_get old b ≡ Some tally → new ≡ slice_set old b (f tally)
   pub none : slice_get old b ≡ None → new ≡ old
@@ -53,7 +53,7 @@ pub record Retold (f : Tally → Tally) (b : ℕ) (old new : List Tally) : Type 
 abbrev pub AreFrom : List Tally → List Tally → Type 0
 AreFrom new old = (b : ℕ) (t : Tally) → slice_get new b ≡ Some t → slice_get old b ≡ Some t
 
--- a slot let go of what it held
+-- a slot released what it held
 abbrev pub LetsGo : List Tally → Option Cap → List Tally → Type 0
 LetsGo old None new = new ≡ old
 LetsGo old (Some cap) new = Retold (one_less cap.obj) (bucket_of cap.obj) old new

@@ -1,12 +1,12 @@
-//! What copies and mints make of a capability.
+//! The capabilities that copies and mints make.
 ghost use Rattle.std.specs.Prelude.{◌≡◌};
 ghost use Rattle.mcs_book.specs.Rights.{can_badge};
 ghost use Rattle.mcs_slots.specs.Masks.{masked, badged};
 
 use mcs_types::{Badge, Cap, Guard, Kind, ObjId, Rights};
 
-/// An equal capability, put together by its fields: so the compiler need not keep the bytes between
-/// them.
+/// Returns an equal capability, built field by field, so that the compiler need not copy the
+/// padding.
 #[inline(always)]
 pub fn by_fields(cap: &Cap) -> Cap
     ensures { result ≡ cap.now }
@@ -25,7 +25,7 @@ pub fn by_fields(cap: &Cap) -> Cap
     }
 }
 
-/// A capability with those of its rights that are asked for (manual: Capability Spaces).
+/// Returns a capability with those of its rights that are asked for (manual: Capability Spaces).
 pub fn with_mask(cap: &Cap, mask: Rights) -> Cap
     ensures { result ≡ masked cap.now mask }
 {
@@ -46,7 +46,8 @@ pub fn with_badge(cap: &Cap, mask: Rights, badge: Badge) -> Cap
     }
 }
 
-/// Whether a capability is of a kind that carries a badge: to an endpoint or a notification.
+/// Returns whether a capability is of a kind that carries a badge: to an endpoint or a
+/// notification.
 pub fn takes_badge(cap: &Cap) -> bool
     ensures { result ≡ can_badge cap.now }
 {

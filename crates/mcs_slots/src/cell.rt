@@ -19,7 +19,7 @@ enum Fields {
 }
 
 /// A capability, or none, with its fields side by side: half the size of an `Option<Cap>`, so that
-/// twice as many slots are in the processor's caches.
+/// twice as many slots fit the processor's caches.
 #[derive(Clone, Copy)]
 pub(crate) struct Cell {
     fields: Fields,
@@ -69,7 +69,7 @@ impl Cell {
         Cell { fields }
     }
 
-    /// What the slot holds.
+    /// Returns what the slot holds.
     #[inline(always)]
     pub(crate) fn cap(&self) -> Option<Cap>
         ensures { result ≡ self.now }

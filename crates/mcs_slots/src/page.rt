@@ -26,14 +26,14 @@ impl Model for Page {
     ghost invariant = { λ p. (1 ≤ p.radix) × (p.radix ≤ 8) × (length p.caps.items ≡ 2 ^ p.radix) };
 }
 
-/// Whether two ids name one object.
+/// Returns whether two ids name one object.
 pub(crate) fn is_same(a: ObjId, b: ObjId) -> bool
     ensures { result ≡ same a b }
 {
     a.kind as u8 == b.kind as u8 && a.serial == b.serial
 }
 
-/// Whether it is a capability to an object.
+/// Returns whether it is a capability to an object.
 fn is_to(cap: &Option<Cap>, obj: ObjId) -> bool
     ensures { result ≡ is_cap_to obj cap.now }
 {
@@ -43,7 +43,7 @@ fn is_to(cap: &Option<Cap>, obj: ObjId) -> bool
     }
 }
 
-/// How many slots a radix makes.
+/// Returns how many slots a radix makes.
 fn slots_of(radix: u8) -> usize
     requires { radix ≤ 8 }
     ensures value { result ≡ 2 ^ radix }
@@ -52,7 +52,7 @@ fn slots_of(radix: u8) -> usize
     1 << radix
 }
 
-/// So many slots that hold nothing.
+/// Returns `count` empty slots.
 fn empty_cells(alloc: Global, count: usize) -> Result<Vec<Cell>, AllocError>
     ensures { IfOk result (λ v. v.items ≡ replicate count None) }
 {
@@ -66,7 +66,7 @@ fn empty_cells(alloc: Global, count: usize) -> Result<Vec<Cell>, AllocError>
 impl Page {
     ghost use Rattle.mcs_slots.specs.Pages.{empty_page, IsPage};
 
-    /// The empty slots of a CNode.
+    /// Returns the empty slots of a CNode.
     pub(crate) fn empty(alloc: Global, radix: u8) -> Result<Page, OutOfMemory>
         requires some { 1 ≤ radix }
         requires few { radix ≤ 8 }
@@ -76,7 +76,7 @@ impl Page {
         Ok(Page { radix, caps })
     }
 
-    /// Clones the page in the memory of a spare one. OutOfMemory where memory is refused.
+    /// Clones the page in the memory of a spare one. `OutOfMemory` if an allocation fails.
     pub(crate) fn copy(&self, alloc: Global, spare: Option<Page>) -> Result<Page, OutOfMemory>
         ensures { IfOk result (λ p. p ≡ self.now) }
     {
@@ -98,21 +98,21 @@ impl Page {
         self.radix
     }
 
-    /// How many slots there are.
+    /// Returns how many slots there are.
     pub(crate) fn len(&self) -> usize
         ensures { result ≡ 2 ^ self.now.radix }
     {
         slots_of(self.radix)
     }
 
-    /// The capability in a slot, or None where the slot is empty or not there.
+    /// The capability in a slot, or None if the slot is empty or not there.
     pub fn get(&self, index: u8) -> Option<Cap>
         ensures { result ≡ slice_index_or self.now.caps index None }
     {
         self.caps.get(index as usize)?.cap()
     }
 
-    /// Fills a slot that is there with a capability, or empties it, and gives what it held.
+    /// Fills or empties an existing slot, and returns what it held.
     pub(crate) fn set(&mut self, index: u8, cap: Option<Cap>) -> Option<Cap>
         requires { index < 2 ^ self.old.radix }
         ensures held { result ≡ slice_index_or self.old.caps index None }
@@ -124,7 +124,7 @@ impl Page {
         held
     }
 
-    /// How many slots hold a capability to an object.
+    /// Returns how many slots hold a capability to an object.
     pub(crate) fn count_of(&self, obj: ObjId) -> u32
         ensures value { result ≡ count_by (is_cap_to obj) self.now.caps }
         ensures few { result ≤ 256 }

@@ -25,7 +25,7 @@ impl Model for Pages {
     ghost invariant = { λ s. (length s.pages.items ≤ 64) × ArePages s.pages.items };
 }
 
-/// Where the page of a CNode is, if it can be one.
+/// Returns the index of a CNode's page, if the id is one of a CNode.
 fn page_number(cnode: ObjId) -> Option<usize>
     ensures { result ≡ number_of cnode }
 {
@@ -54,8 +54,8 @@ impl Pages {
     ghost use Rattle.mcs_slots.specs.Pages.{empty_page, page_at, radix_of, slot_at, HasSlot, held, ArePages};
     ghost use Rattle.mcs_slots.specs.Filling.{filled};
 
-    /// Empty CNodes of these radices, each 1 to 8, in order: their serials are 1, 2 and so on.
-    /// There are 64 at most.
+    /// Returns empty CNodes with these radices, each 1 to 8, and the serials 1, 2 and so on; at
+    /// most 64.
     pub(crate) fn new(alloc: Global, radices: &[u8]) -> Result<Pages, OutOfMemory>
         requires few { length radices.now ≤ 64 }
         requires radices { All (λ r. (1 ≤ r) × (r ≤ 8)) radices.now }
@@ -68,7 +68,7 @@ impl Pages {
         Ok(Pages { pages })
     }
 
-    /// Clones the pages in the memory of spare ones. OutOfMemory where memory is refused.
+    /// Clones the pages in the memory of spare ones. `OutOfMemory` if an allocation fails.
     pub(crate) fn copy(&self, alloc: Global, spare: Option<Pages>) -> Result<Pages, OutOfMemory>
         ensures { IfOk result (λ s. s ≡ self.now) }
     {
@@ -81,9 +81,8 @@ impl Pages {
         })
     }
 
-    /// Adds an empty CNode of a radix from 1 to 8, where fewer than 64 are there, as `len` tells:
-    /// its serial is the next. The memory for its slots is taken here; where it is refused, the
-    /// slots are as they were.
+    /// Adds an empty CNode with a radix from 1 to 8; fewer than 64 must exist, as `len` tells. Its
+    /// serial is the next. If the allocation of its slots fails, nothing changes.
     pub(crate) fn add(&mut self, radix: u8) -> Result<(), OutOfMemory>
         requires few { length self.old < 64 }
         requires some { 1 ≤ radix }
@@ -106,21 +105,21 @@ impl Pages {
         let _ = &self.pages;
     }
 
-    /// How many CNodes there are.
+    /// Returns how many CNodes there are.
     pub(crate) fn len(&self) -> usize
         ensures { result ≡ length self.now }
     {
         self.pages.len()
     }
 
-    /// The slots of a CNode, or None where it is none of these.
+    /// Returns the slots of a CNode; None if it does not exist.
     pub(crate) fn page(&self, cnode: ObjId) -> Option<&Page>
         ensures { option_copied result ≡ page_at self.now cnode }
     {
         self.pages.get(page_number(cnode)?)
     }
 
-    /// The radix of a CNode, or None where it is none of these.
+    /// Returns the radix of a CNode; None if it does not exist.
     pub(crate) fn radix(&self, cnode: ObjId) -> Option<u8>
         ensures { result ≡ radix_of self.now cnode }
     {
@@ -128,7 +127,7 @@ impl Pages {
         Some(page.radix())
     }
 
-    /// The capability in a slot, or None where the slot is empty or not there.
+    /// The capability in a slot, or None if the slot is empty or not there.
     pub(crate) fn get(&self, slot: SlotId) -> Option<Cap>
         ensures { result ≡ slot_at self.now slot.cnode slot.index }
     {
@@ -136,7 +135,7 @@ impl Pages {
         page.get(slot.index)
     }
 
-    /// Whether a slot is there: its index is below 2 to the radix of its CNode.
+    /// Returns whether a slot exists: its index is below 2 to the radix of its CNode.
     pub(crate) fn has_slot(&self, slot: SlotId) -> bool
         ensures { IsTrue result ↔ HasSlot self.now slot }
     {
@@ -146,7 +145,7 @@ impl Pages {
         }
     }
 
-    /// Fills a slot that is there with a capability, or empties it, and gives what it held.
+    /// Fills or empties an existing slot, and returns what it held.
     pub(crate) fn set(&mut self, slot: SlotId, cap: Option<Cap>) -> Option<Cap>
         requires { HasSlot self.old slot }
         ensures held { result ≡ slot_at self.old slot.cnode slot.index }
@@ -161,7 +160,7 @@ impl Pages {
         }
     }
 
-    /// How many slots hold a capability to an object.
+    /// Returns how many slots hold a capability to an object.
     pub(crate) fn count_of(&self, obj: ObjId) -> u32
         ensures { result ≡ held self.now obj }
     {

@@ -17,8 +17,7 @@ pub struct SlotId {
 }
 
 impl SlotId {
-    /// The same slot, put together by its fields: so the compiler need not keep the bytes between
-    /// them.
+    /// Returns the same slot, built field by field, so that the compiler need not copy the padding.
     #[inline(always)]
     pub fn by_fields(self) -> SlotId
         ensures { result ≡ self }
@@ -33,15 +32,14 @@ impl SlotId {
     }
 }
 
-/// The slots of up to 64 CNodes, whose serials count from 1 (own). The memory of a CNode is taken
-/// when it is added, as a boot does; beside `new` and `add` no call takes any. The tallies are a
-/// memo of what the slots hold, and change with them.
+/// The slots of up to 64 CNodes, with serials from 1 (own). Only `new` and `add` allocate; the boot
+/// adds all CNodes. The tallies are counts of what the slots hold, and change with them.
 pub struct Slots {
     pages: Pages,
     tallies: Tallies,
 }
 
-// By hand, so that it is a function of its own: a derived drop would be proved anew wherever it is
+// Written by hand as a separate function: a derived drop would be proved again wherever it is
 // dropped.
 impl Drop for Slots {
     fn drop(self) {
@@ -70,8 +68,8 @@ impl Slots {
     ghost use Rattle.mcs_slots.specs.Filling.{filled, Fills, Moves};
     ghost use Rattle.mcs_slots.specs.Copying.{source_cap, copy_of, mint_of, answered};
 
-    /// Empty CNodes of these radices, each 1 to 8, in order: their serials are 1, 2 and so on.
-    /// There are 64 at most. What is tallied changes no answer, but how long a count takes.
+    /// Returns empty CNodes with these radices, each 1 to 8, and the serials 1, 2 and so on; at
+    /// most 64. `tallied` changes no result, but how long a count takes.
     pub fn new(alloc: Global, radices: &[u8], tallied: Tallied) -> Result<Slots, OutOfMemory>
         requires few { length radices.now ≤ 64 }
         requires radices { All (λ r. (1 ≤ r) × (r ≤ 8)) radices.now }
@@ -88,7 +86,7 @@ impl Slots {
         (pages, tallies)
     }
 
-    /// Clones the slots in the memory of spare ones. OutOfMemory where memory is refused.
+    /// Clones the slots in the memory of spare ones. `OutOfMemory` if an allocation fails.
     pub fn copy_all(&self, alloc: Global, spare: Option<Slots>) -> Result<Slots, OutOfMemory>
         ensures { IfOk result (λ s. s ≡ self.now) }
     {
@@ -105,9 +103,8 @@ impl Slots {
         })
     }
 
-    /// Adds an empty CNode of a radix from 1 to 8, where fewer than 64 are there, as `len` tells:
-    /// its serial is the next. The memory for its slots is taken here; where it is refused, the
-    /// slots are as they were.
+    /// Adds an empty CNode with a radix from 1 to 8; fewer than 64 must exist, as `len` tells. Its
+    /// serial is the next. If the allocation of its slots fails, nothing changes.
     pub fn add(&mut self, radix: u8) -> Result<(), OutOfMemory>
         requires few { length self.old < 64 }
         requires some { 1 ≤ radix }
@@ -128,56 +125,56 @@ impl Slots {
         self.pages.are_pages();
     }
 
-    /// How many CNodes there are.
+    /// Returns how many CNodes there are.
     pub fn len(&self) -> usize
         ensures { result ≡ length self.now }
     {
         self.pages.len()
     }
 
-    /// The slots of a CNode, or None where it is none of these.
+    /// Returns the slots of a CNode; None if it does not exist.
     pub fn page(&self, cnode: ObjId) -> Option<&Page>
         ensures { option_copied result ≡ page_at self.now cnode }
     {
         self.pages.page(cnode)
     }
 
-    /// The radix of a CNode, or None where it is none of these.
+    /// Returns the radix of a CNode; None if it does not exist.
     pub fn radix(&self, cnode: ObjId) -> Option<u8>
         ensures { result ≡ radix_of self.now cnode }
     {
         self.pages.radix(cnode)
     }
 
-    /// The capability in a slot, or None where the slot is empty or not there.
+    /// The capability in a slot, or None if the slot is empty or not there.
     pub fn get(&self, slot: SlotId) -> Option<Cap>
         ensures { result ≡ slot_at self.now slot.cnode slot.index }
     {
         self.pages.get(slot)
     }
 
-    /// Whether a slot is there: its index is below 2 to the radix of its CNode.
+    /// Returns whether a slot exists: its index is below 2 to the radix of its CNode.
     pub fn has_slot(&self, slot: SlotId) -> bool
         ensures { IsTrue result ↔ HasSlot self.now slot }
     {
         self.pages.has_slot(slot)
     }
 
-    /// Fills a slot that is there with a capability, or empties it. What the slot held is gone.
-    // a part of its caller, so that the capability is not moved through memory
+    /// Fills or empties an existing slot; what it held is dropped.
+    // inlined, so that the capability stays in registers
     #[inline(always)]
     pub fn set(&mut self, slot: SlotId, cap: Option<Cap>)
         requires { HasSlot self.old slot }
         ensures { self.new ≡ filled self.old slot cap }
     {
-        // There are few slots, so no count outgrows its tally.
+        // There are few slots, so no tally overflows.
         self.pages.are_pages();
         let held = self.pages.set(slot, cap_again(&cap));
         self.tallies.let_go(&held);
         self.tallies.count(&cap);
     }
 
-    /// Puts a capability into a slot that is there. What the slot held is gone.
+    /// Puts a capability into an existing slot; what it held is dropped.
     pub fn put(&mut self, slot: SlotId, cap: Cap)
         requires { HasSlot self.old slot }
         ensures { self.new ≡ filled self.old slot (Some cap) }
@@ -185,7 +182,7 @@ impl Slots {
         self.set(slot, Some(cap));
     }
 
-    /// Empties a slot that is there, and gives what it held.
+    /// Empties an existing slot, and returns what it held.
     pub fn take(&mut self, slot: SlotId) -> Option<Cap>
         requires { HasSlot self.old slot }
         ensures cap { result ≡ slot_at self.old slot.cnode slot.index }
@@ -233,8 +230,8 @@ impl Slots {
     }
 
     /// Copies a capability into another slot with those of its rights that are asked for; both
-    /// slots are there (manual: Capability Spaces). Refused, in this order, where the source is
-    /// empty (SlotEmpty) and where the destination is full (SlotFull): then nothing changes.
+    /// slots must exist (manual: Capability Spaces). Refused, in this order, if the source is empty
+    /// (SlotEmpty) or the destination is full (SlotFull): then nothing changes.
     pub fn copy(&mut self, source: SlotId, dest: SlotId, rights: Rights) -> Result<(), Refusal>
         requires source { HasSlot self.old source }
         requires dest { HasSlot self.old dest }
@@ -247,9 +244,9 @@ impl Slots {
         Ok(())
     }
 
-    /// Copies a capability like `copy`, and sets its badge. Refused like `copy`, and then where the
-    /// capability is to no endpoint or notification (WrongKind) and where the source's badge is not
-    /// 0 (BadgeNotAllowed): then nothing changes.
+    /// Copies a capability like `copy`, and sets its badge. Refused like `copy`, then if the
+    /// capability is to no endpoint or notification (WrongKind), and if the source's badge is not 0
+    /// (BadgeNotAllowed): then nothing changes.
     pub fn mint(
         &mut self,
         source: SlotId,
@@ -268,7 +265,7 @@ impl Slots {
         Ok(())
     }
 
-    /// Moves a capability into another slot as it is, and empties its own. Refused like `copy`:
+    /// Moves a capability unchanged into another slot, and empties its own. Refused like `copy`:
     /// then nothing changes.
     pub fn move_cap(&mut self, source: SlotId, dest: SlotId) -> Result<(), Refusal>
         requires source { HasSlot self.old source }
@@ -283,9 +280,8 @@ impl Slots {
         Ok(())
     }
 
-    /// How many slots hold a capability to an object. The tally of its bucket tells it; where
-    /// another object came into the bucket first, or there is no tally, all slots are looked at
-    /// (own).
+    /// Returns how many slots hold a capability to an object: by the tally of its bucket, or, if
+    /// the bucket counts another object or has no tally, by visiting all slots (own).
     pub fn count_of(&self, obj: ObjId) -> u32
         ensures { result ≡ held self.now obj }
     {

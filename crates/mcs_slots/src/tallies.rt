@@ -1,4 +1,4 @@
-//! How many slots hold a capability to each object, as a memo of the slots.
+//! Counts of the slots that hold a capability to each object.
 ghost use Rattle.std.specs.Prelude.{◌≡◌, All, IfOk, length, slice_get};
 ghost use Rattle.mcs_slots.specs.declared.tallies.Tallied.{Tallied};
 ghost use Rattle.mcs_slots.specs.Buckets.{bucket_of, owns};
@@ -14,12 +14,12 @@ const SERIALS: u32 = 4_096;
 /// How many buckets there are: one for each kind and each remainder of a serial.
 const BUCKETS: usize = 6 * SERIALS as usize;
 
-/// How many buckets a copy has tallies of, the first: copies are made of small systems, again and
-/// again (own).
+/// How many buckets a copy keeps tallies of: search makes copies of small systems all the time
+/// (own).
 const COPIED: usize = 6 * 64;
 
-/// Which buckets have a tally: all, or the first, where capabilities to one object are hardly ever
-/// counted (own).
+/// Which buckets have a tally: all, or the first ones, for systems that hardly ever count
+/// capabilities (own).
 #[derive(Clone, Copy, PartialEq, Eq, Debug)]
 pub enum Tallied {
     All,
@@ -27,7 +27,7 @@ pub enum Tallied {
 }
 
 impl Tallied {
-    /// How many buckets these are.
+    /// Returns how many buckets have a tally.
     fn count(self) -> usize
         ensures all { self ≡ Tallied.All → result ≡ BUCKETS }
         ensures first { self ≡ Tallied.First → result ≡ COPIED }
@@ -39,9 +39,9 @@ impl Tallied {
     }
 }
 
-/// What is known of the objects of a bucket, which are of one kind: the serial of the one that came
-/// first, the owner, how many slots hold a capability to it, and how many to any of them. There are
-/// fewer slots than 16 bits count.
+/// The tally of a bucket, whose objects are of one kind: the serial of its owner, which is the
+/// object that came first, how many slots hold a capability to the owner, and how many to any of
+/// its objects. 16 bits suffice for the counts: there are fewer slots.
 #[derive(Clone, Copy)]
 pub(crate) struct Tally {
     owner: u32,
@@ -49,7 +49,7 @@ pub(crate) struct Tally {
     total: u16,
 }
 
-/// A tally for each bucket of objects, or for the first of them. They change with the slots, one
+/// A tally for each bucket of objects, or for the first ones. They change with the slots, one
 /// capability at a time.
 #[derive(Drop)]
 pub(crate) struct Tallies {
@@ -75,21 +75,21 @@ fn bucket_of(obj: ObjId) -> usize
 impl Tally {
     ghost use Rattle.mcs_slots.specs.Tallies.{one_less, one_more};
 
-    /// Whether its count is of this object of its bucket.
+    /// Returns whether this object of the bucket is the one that it counts.
     pub(crate) fn owns(&self, obj: ObjId) -> bool
         ensures { result ≡ owns self.now.owner obj }
     {
         self.owner == obj.serial
     }
 
-    /// How many slots hold a capability to its owner.
+    /// Returns how many slots hold a capability to its owner.
     pub(crate) fn held(&self) -> u32
         ensures { result ≡ self.now.held }
     {
         self.held as u32
     }
 
-    /// Counts one capability less to an object of its bucket.
+    /// Counts one capability less to an object of the bucket.
     fn count_down(&mut self, obj: ObjId)
         ensures { self.new ≡ one_less obj self.old }
     {
@@ -99,9 +99,9 @@ impl Tally {
         self.total = self.total.saturating_sub(1);
     }
 
-    /// Counts one capability more to an object of its bucket. The object owns the bucket from now
-    /// on, where no slot held a capability to one of the bucket's objects. The slots are too few
-    /// for a count to be cut off.
+    /// Counts one capability more to an object of the bucket. The object becomes the bucket's owner
+    /// if no slot held a capability to any of its objects. The counts cannot overflow: there are
+    /// too few slots.
     fn count_up(&mut self, obj: ObjId)
         ensures { self.new ≡ one_more obj self.old }
     {
@@ -116,7 +116,7 @@ impl Tally {
     }
 }
 
-/// This many tallies of empty buckets.
+/// Returns `count` tallies of empty buckets.
 fn no_tallies(alloc: Global, count: usize) -> Result<Vec<Tally>, OutOfMemory>
     ensures empty { IfOk result (λ v. All (λ t. t ≡ no_tally) v.items) }
     ensures len { IfOk result (λ v. length v.items ≡ count) }
@@ -133,7 +133,7 @@ fn no_tallies(alloc: Global, count: usize) -> Result<Vec<Tally>, OutOfMemory>
 impl Tallies {
     ghost use Rattle.mcs_slots.specs.Tallies.{LetsGo, Counts, AreFrom};
 
-    /// The tallies of slots that are empty.
+    /// Returns the tallies of empty slots.
     pub(crate) fn new(alloc: Global, tallied: Tallied) -> Result<Tallies, OutOfMemory>
         ensures { IfOk result (All (λ t. t ≡ no_tally)) }
     {
@@ -142,8 +142,8 @@ impl Tallies {
         })
     }
 
-    /// Clones the tallies of the first buckets in the memory of spare ones. OutOfMemory where
-    /// memory is refused.
+    /// Clones the tallies of the first buckets in the memory of spare ones. `OutOfMemory` if an
+    /// allocation fails.
     pub(crate) fn copy(&self, alloc: Global, spare: Option<Tallies>) -> Result<Tallies, OutOfMemory>
         ensures { IfOk result (λ t. AreFrom t self.now) }
     {
@@ -157,14 +157,14 @@ impl Tallies {
         })
     }
 
-    /// The tally of the bucket of an object, where there is one.
+    /// The tally of the bucket of an object, if there is one.
     pub(crate) fn of_bucket(&self, obj: ObjId) -> Option<Tally>
         ensures { result ≡ slice_get self.now (bucket_of obj) }
     {
         self.tallies.get(bucket_of(obj)).copied()
     }
 
-    /// Counts what a slot no longer holds.
+    /// Counts a capability that a slot no longer holds.
     pub(crate) fn let_go(&mut self, cap: &Option<Cap>)
         ensures { LetsGo self.old cap.now self.new }
     {
@@ -176,7 +176,7 @@ impl Tallies {
         }
     }
 
-    /// Counts what an empty slot comes to hold.
+    /// Counts a capability that an empty slot now holds.
     pub(crate) fn count(&mut self, cap: &Option<Cap>)
         ensures { Counts self.old cap.now self.new }
     {

@@ -19,10 +19,10 @@ pub enum ReadFault {
     Read,
 }
 
-/// How many bytes are asked for at once.
+/// How many bytes a read asks for.
 pub const PIECE: usize = 4_096;
 
-/// Reads once; a read that is interrupted is tried again, a bounded number of times.
+/// Reads once; an interrupted read is retried, at most 1,000 times in a row.
 fn read_some<R: Read>(reader: &mut R, failed: &mut u64, buf: &mut [u8]) -> Result<usize, ReadFault>
     ensures ok { IfOk result (λ n. n ≤ length buf.new) }
     ensures consumed { IfOk result (λ n. Consumes (R.remaining reader.old) (R.remaining reader.new)
@@ -55,7 +55,7 @@ impl<R> Source<R> {
         Source { reader, failed: 0 }
     }
 
-    /// How many calls of the reader failed. The count stays at its greatest value.
+    /// Returns how many calls of the reader failed; the count saturates.
     pub fn failed(&self) -> u64
         ensures { result ≡ self.now.failed }
     {
@@ -66,7 +66,7 @@ impl<R> Source<R> {
 impl<R: Read> Source<R> {
     ghost use Rattle.mcs_source.specs.Input.{Reads};
 
-    /// Reads the next bytes, as many as one read gives, and none at the end of the input.
+    /// Reads the next bytes, as many as one read gives; none at the end of the input.
     pub fn read_piece(&mut self, piece: &mut [u8]) -> Result<usize, ReadFault>
         requires some { 0 < length piece.old }
         ensures ok { IfOk result (λ n. n ≤ length piece.new) }

@@ -205,7 +205,7 @@ context-there R t sound = go (context_of R t) refl
     go None e = tt
     go (Some s) e = (held-there R s t sound (context_of-holder R t s e)).0
 
--- a context that may be closed is in the table, and nobody holds it
+-- a context that may be closed is in the table, and no thread holds it
 pub closing-context : (R : Log) (v : Holding) (s : ObjId) → Sound R → s.kind ≡ kind.Context → Allowed R (rec.Closed s) → ContextsAgree v R → IsSome (core_in v s)
 closing-context R v s sound is ok a = rw (a.cores s) (core-there R s sound (is, ok.0))
 

@@ -70,7 +70,7 @@ module _ (R S : Log) (r x : ObjId) (sound : Sound R) (sound' : Sound S) (owed : 
   still-owed : (q t : ObjId) → owed_by S q ≡ Some t → (same q r ≡ false) × (owed_by R q ≡ Some t)
   still-owed q t h = elim (set-split q r None (owed_by R q) (Some t) (sym (ends q) ∙ h)) [ inl (who, is) ↦ absurd cc | inr (other, is) ↦ (other, is) ]
 
-  -- nobody owes its caller any more, and the others are owed as before
+  -- no thread owes its caller any more, and the others are owed as before
   pub owing-ended : owing S x ≡ None
   owing-ended = owing-nothing S x (λ q h. let f : (same q r ≡ false) × (owed_by R q ≡ Some x) = still-owed q x h in same-never q r (owed-one R q r x sound f.1 owed) f.0)
 

@@ -167,7 +167,7 @@ queue-there R (Senders e) h = there R kind.Endpoint e h
 queue-there R (Receivers e) h = there R kind.Endpoint e h
 queue-there R (Waiters n) h = there R kind.Notification n h
 
--- nobody is in the growing line of an empty queue
+-- no thread is in the growing line of an empty queue
 pub line-empty : (R : Log) (q : Queue) → Sound R → IsEmptyLine R q → growing_queue R q ≡ []
 line-empty R q sound none = go (growing_queue R q) refl
   where
@@ -190,7 +190,7 @@ closing-queues R v o ok a q h =
     let (it, kind_is) = queue-of o q h in
     a.has q ∙ there R (queue_kind q) (queue_object q) (ap (λ (x : ObjId). x.kind) it ∙ kind_is, ap (λ x. is_alive R x) it ∙ ok.0)
 
--- and nobody is in them
+-- and no thread is in them
 pub closing-empty : (R : Log) (v : Queueing) (o : ObjId) → Sound R → Allowed R (rec.Closed o) → QueuesAgree v R → (q : Queue) → is_queue_of o q ≡ true → v.line q ≡ []
 closing-empty R v o sound ok a q h = let (it, kind_is) = queue-of o q h in a.line q ∙ line-empty R q sound (go q it kind_is)
   where

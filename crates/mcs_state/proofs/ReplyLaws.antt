@@ -229,7 +229,7 @@ joined R v w u (Receivers e) None sound ok h a = aside R v w u (Receivers e) Non
 joined R v w u (Senders e) reply sound ok h a = aside R v w u (Senders e) reply ok.1.0 (λ x. refl) h a
 joined R v w u (Waiters n) reply sound ok h a = aside R v w u (Waiters n) reply ok.1.0 (λ x. refl) h a
 
--- nobody is queued with a reply object once its receiver left
+-- no thread is queued with a reply object once its receiver left
 unattended : (R : Log) (u r e : ObjId) → Sound R → queue_of R u ≡ Some (Receivers e) → reply_with R u ≡ Some r → receiver_with (rec.Parts u (Receivers e) ∷ R) r ≡ None
 unattended R u r e sound stands named = go (receiver_with (rec.Parts u (Receivers e) ∷ R) r) refl
   where
@@ -309,7 +309,7 @@ attended-there R v u (Receivers e) sound stands a = go (reply_with R u) refl
 attended-there R v u (Senders e) sound stands a = tt
 attended-there R v u (Waiters n) sound stands a = tt
 
--- a reply object that may be closed is there, and nobody uses it
+-- a reply object that may be closed is there, and no thread uses it
 pub closing-reply : (R : Log) (v : Owing) (r : ObjId) → r.kind ≡ kind.Reply → Allowed R (rec.Closed r) → RepliesAgree v R → has_reply v r ≡ true
 closing-reply R v r is ok a = a.there r ∙ there R kind.Reply r (is, ok.0)
 

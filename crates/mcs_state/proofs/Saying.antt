@@ -157,7 +157,7 @@ standing-unowed R t q sound h = go (owing R t) refl
     go None e = refl
     go (Some r) e = absurd (standing-owed R t q r sound h (owing-owed R t r e))
 
--- what was never made owes nobody
+-- what was never made owes no thread
 pub owes-none : (R : Log) (r : ObjId) → Sound R → was_made R r ≡ false → owed_by R r ≡ None
 owes-none R r sound h = go (owed_by R r) refl
   where

@@ -81,6 +81,6 @@ said-closed R o x said = unless (same x o) (is_alive R x) said ∙ ap (λ b. con
 pub said-closed_of : {A : Type 0} (R : Log) (o x : ObjId) (k : Kind) (said : Option A) → value_after x o None (cond (is_there R k x) said None) ≡ cond (is_there (rec.Closed o ∷ R) k x) said None
 said-closed_of R o x k said = unless (same x o) (is_there R k x) said ∙ ap (λ b. cond b said None) (there-closed R o x k)
 
--- nobody is left with what is closed, as its kind says
+-- no thread is left with what is closed, as its kind says
 pub released : (R : Log) (o : ObjId) (k : Kind) → o.kind ≡ k → Allowed R (rec.Closed o) → IsReleased R k o
 released R o k e ok = subst (λ (j : Kind). IsReleased R j o) e ok.1

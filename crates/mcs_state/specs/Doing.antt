@@ -17,7 +17,7 @@ pub record Gives (outcome : Outcome) (old : Now) (said : Answer) (new : Now) : T
   pub records : new ≡ adds_all outcome.records old
   pub answer : said ≡ outcome.answer
 
--- the hand has room for so many records
+-- the hand has room for this many records
 abbrev pub Holds : List Rec → Now → Type 0
 Holds records n = length records + length n.hand < n.room
 

@@ -113,7 +113,7 @@ pub record AddsContext (s : ObjId) (core : CoreId) (old new : Holding) : Type 0 
   pub holders : (x : ObjId) → holder_in new x ≡ holder_in old x
   pub homes : (x : ObjId) → home_in new x ≡ home_in old x
 
--- a context is held by this thread now, or by nobody
+-- a context is held by this thread now, or by no thread
 pub record GivesContext (s : ObjId) (t : Option ObjId) (old new : Holding) : Type 0 where
   pub counts : counts new ≡ counts old
   pub cores : (x : ObjId) → core_in new x ≡ core_in old x

@@ -23,7 +23,7 @@ pub record HasRoom (R : Log) (k : Kind) : Type 0 where
 abbrev pub MayMake : Log → Kind → Form → Type 0
 MayMake R k form = Allowed R (Made (next_id R k) form)
 
--- it was made
+-- an object was made
 abbrev pub makes_next : Kind → Form → Now → Now
 makes_next k form n = adds (Made (next_id (so_far n) k) form) n
 
@@ -34,8 +34,8 @@ is_plain_kind Notification = true
 is_plain_kind Reply = true
 is_plain_kind _ = false
 
--- whether no more than so many objects of a kind may be there at a time; of the others so many may
--- be made
+-- whether no more than this many objects of a kind may be there at a time; of the others this many
+-- may be made
 abbrev pub has_limit : Kind → Bool
 has_limit Context = true
 has_limit k = is_plain_kind k

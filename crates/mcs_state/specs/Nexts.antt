@@ -12,7 +12,7 @@ abbrev pub next_among : ObjId → List ObjId → Option ObjId
 next_among t [] = None
 next_among t (x ∷ xs) = cond (same t x) (head_of xs) (next_among t xs)
 
--- the thread after t in a queue; nobody where t is in none
+-- the thread after t in a queue; no thread where t is in none
 abbrev pub next_in : Log → Option Queue → ObjId → Option ObjId
 next_in R None t = None
 next_in R (Some q) t = next_among t (queued_in R q)
@@ -21,7 +21,7 @@ next_in R (Some q) t = next_among t (queued_in R q)
 unfoldable pub next_of : Log → ObjId → Option ObjId
 next_of R t = next_in R (queue_of R t) t
 
--- a thread and those after it in its queue, at most so many
+-- a thread and those after it in its queue, at most this many
 abbrev pub behind : ℕ → Log → Option ObjId → List ObjId
 behind zero R at = []
 behind (suc n) R None = []

@@ -132,7 +132,7 @@ pub record SlotsAgree (pages : List Page) (R : Log) : Type 0 where
   pub slots : (c : ObjId) (i : ℕ) → slot_at pages c i ≡ slot R c i
   pub counts : (o : ObjId) → held pages o ≡ count_of R o
 
--- how many messages were sent: as many as so many lines and the records in hand can have
+-- how many messages were sent: as many as this many lines and the records in hand can have
 pub record SentAgrees (sent lines : ℕ) (hand R : Log) : Type 0 where
   pub all : sent ≡ next_message R
   pub few : sent ≤ HAND * lines + counted is_sent hand

@@ -1,4 +1,4 @@
-//! Receivers that come to be with reply objects.
+//! Sets the receivers of reply objects.
 ghost use Rattle.std.specs.Prelude.{◌≡◌, true, IfSome};
 ghost use Rattle.mcs_replies.specs.Owing.{is_there};
 ghost use Rattle.mcs_state.specs.Following.{SetsAny, attended};
@@ -6,7 +6,7 @@ ghost use Rattle.mcs_state.specs.Following.{SetsAny, attended};
 use mcs_replies::Replies;
 use mcs_types::{ObjId, Queue};
 
-/// The reply object with which a thread is in a queue: in one of receivers it may be one.
+/// Returns the reply object with which a thread is queued: only receivers have one.
 pub fn attended(queue: Queue, reply: Option<ObjId>) -> Option<ObjId>
     ensures { result ≡ attended queue reply }
 {
@@ -16,8 +16,8 @@ pub fn attended(queue: Queue, reply: Option<ObjId>) -> Option<ObjId>
     }
 }
 
-/// Sets the receiver of a reply object that is there, if one is named.
-// a part of its callers, which know whether a reply object is named
+/// Sets the receiver of an existing reply object, if one is named.
+// inlined: callers know whether a reply object is named
 #[inline(always)]
 pub fn attend(replies: &mut Replies, reply: Option<ObjId>, receiver: Option<ObjId>)
     requires { IfSome reply (λ r. is_there replies.old r ≡ true) }

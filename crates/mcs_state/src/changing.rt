@@ -1,4 +1,4 @@
-//! Entries that change one thing, by one record.
+//! Entries that make one change, with one record.
 ghost use Rattle.std.specs.Prelude.{◌≡◌, ◌<◌, length, ◌+◌};
 ghost use Rattle.mcs_types.specs.declared.entry.Answer.TheVariants.{Done};
 ghost use Rattle.mcs_book.specs.Sound.{Allowed};
@@ -12,8 +12,8 @@ use crate::waking::wake;
 use mcs_object_queues::Waiting;
 use mcs_types::{ObjId, Prio};
 
-/// One thing that an entry changes: the holder of a context, where it is homed, which notification
-/// is bound to a thread, or a thread's priority.
+/// One change that an entry makes: to the holder of a context, its home, the notification bound to
+/// a thread, or a thread's priority.
 #[derive(Clone, Copy)]
 pub enum Change {
     Holds {
@@ -34,7 +34,7 @@ pub enum Change {
     },
 }
 
-/// Changes one thing.
+/// Makes a change.
 #[inline(always)]
 fn make_change<W: Waiting>(state: &mut State<W>, change: Change)
     requires allowed { Allowed (so_far state.old) (record_of change) }
@@ -55,8 +55,8 @@ fn make_change<W: Waiting>(state: &mut State<W>, change: Change)
     }
 }
 
-/// Wakes the thread that enters, and changes one thing, which may be changed (own).
-// a part of its callers, which know what changes
+/// Wakes the entering thread, and makes a change, which must be allowed (own).
+// inlined: callers know what changes
 #[inline(always)]
 pub fn change_awake<W: Waiting>(state: &mut State<W>, thread: ObjId, change: Change)
     requires entering { IsEntering (so_far state.old) thread }

@@ -1,4 +1,4 @@
-//! What is tested before anything is done.
+//! The checks before any change.
 ghost use Rattle.std.specs.Prelude.{◌≡◌};
 ghost use Rattle.mcs_types.specs.declared.id.Kind.{Kind};
 ghost use Rattle.mcs_book.specs.Sound.{IsThere};
@@ -9,7 +9,7 @@ use crate::state::State;
 use mcs_object_queues::Waiting;
 use mcs_types::{Cap, Kind, ObjId, Refusal};
 
-/// What was found, where it is a capability to an object of this kind.
+/// Returns a found capability if it is to an object of this kind; else WrongKind.
 pub fn of_kind(found: Result<Cap, Refusal>, kind: Kind) -> Result<Cap, Refusal>
     ensures { result ≡ kinded kind found }
 {
@@ -42,8 +42,8 @@ pub fn with_read(found: Result<Cap, Refusal>) -> Result<Cap, Refusal>
     Ok(cap)
 }
 
-/// The object of a kind that a thread that is there names by an address.
-// a part of its caller, so that the answer does not go through memory
+/// Returns the object of a kind that an existing thread names by an address.
+// inlined, so that the answer stays in registers
 #[inline(always)]
 pub fn object_at<W: Waiting>(
     state: &State<W>,
@@ -58,7 +58,7 @@ pub fn object_at<W: Waiting>(
     Ok(cap.obj)
 }
 
-/// The same, out of line.
+/// Returns what `object_at` does, in a function that is not inlined.
 pub fn find_object<W: Waiting>(
     state: &State<W>,
     thread: ObjId,

@@ -1,4 +1,4 @@
-//! Messages that are open.
+//! The open messages.
 ghost use Rattle.std.specs.Prelude.{◌≡◌, ◌≤◌, IfOk, IsSome, None, Some, length, option_copied, vec_capacity, vec_len};
 ghost use Rattle.mcs_types.specs.declared.id.ObjId.{ObjId};
 ghost use Rattle.mcs_types.specs.declared.id.Kind.{Kind};
@@ -14,7 +14,7 @@ use mcs_types::{Kind, Letter, Mail, Message, OBJECTS, ObjId, OutOfMemory, emptie
 use std::alloc::Global;
 use std::marker::Model;
 
-/// An open message, with a spare one for the receiver's answer. Clauses see the letter.
+/// An open message, with a spare copy for the receiver's answer. Clauses see the letter.
 #[derive(Drop)]
 pub struct OpenLetter {
     pub letter: Letter,
@@ -40,7 +40,7 @@ impl OpenLetter {
         &self.letter
     }
 
-    /// One like this. OutOfMemory where memory is refused.
+    /// Returns a copy. `OutOfMemory` if an allocation fails.
     fn copy(&self, alloc: Global) -> Result<OpenLetter, OutOfMemory>
         ensures { IfOk result (λ o. o ≡ self.now) }
     {
@@ -58,7 +58,7 @@ impl OpenLetter {
     }
 }
 
-/// What is open in a place, once more.
+/// Returns a copy of the open message of a place, if there is one.
 fn copied(alloc: Global, letter: &Option<OpenLetter>) -> Result<Option<OpenLetter>, OutOfMemory>
     ensures { IfOk result (λ o. o ≡ letter.now) }
 {
@@ -68,8 +68,8 @@ fn copied(alloc: Global, letter: &Option<OpenLetter>) -> Result<Option<OpenLette
     }
 }
 
-/// The open messages of threads, each in the place of its sender, up to the last sender that there
-/// was: a copy is as small. All memory is taken when they are made. Clauses see the places.
+/// The open messages of threads, each at the index of its sender, up to the last sender there was,
+/// so that copies are small. All memory is allocated when the list is made. Clauses see the places.
 pub struct Letters {
     places: Vec<Option<OpenLetter>>,
 }
@@ -86,15 +86,15 @@ impl Model for Letters {
     ghost invariant = { λ l. (vec_len l.places ≤ ROOM) × (ROOM ≤ vec_capacity l.places) };
 }
 
-// By hand, so that it is a function of its own: a derived drop would be proved anew wherever a
-// state is dropped.
+// Written by hand as a separate function: a derived drop would be proved again wherever a state is
+// dropped.
 impl Drop for Letters {
     fn drop(self) {
         let Letters { places: _ } = self;
     }
 }
 
-/// Clones open messages, at most 256, with the room for so many, in the memory of spare ones.
+/// Clones open messages, at most 256, with this capacity, in the memory of spare ones.
 fn copied_places(
     alloc: Global,
     spare: Vec<Option<OpenLetter>>,
@@ -111,7 +111,7 @@ fn copied_places(
     Ok(copies)
 }
 
-/// Makes at least so many places. The new ones have no open message.
+/// Lengthens the list to at least `count` places; new ones have no open message.
 fn make_places(places: &mut Vec<Option<OpenLetter>>, count: usize)
     requires count { count ≤ ROOM }
     requires few { vec_len places.old ≤ ROOM }
@@ -128,7 +128,7 @@ fn make_places(places: &mut Vec<Option<OpenLetter>>, count: usize)
 }
 
 impl Letters {
-    /// No open message, and the room of all threads.
+    /// Returns a list without open messages, with room for all threads.
     pub fn new(alloc: Global) -> Result<Letters, OutOfMemory>
         ensures { IfOk result (λ l. (x : ObjId) → kept_at Kind.Thread l x ≡ None) }
     {
@@ -143,7 +143,7 @@ impl Letters {
         places
     }
 
-    /// Clones the open messages in the memory of spare ones. OutOfMemory where memory is refused.
+    /// Clones the open messages in the memory of spare ones. `OutOfMemory` if an allocation fails.
     pub fn copy(&self, alloc: Global, spare: Option<Letters>) -> Result<Letters, OutOfMemory>
         ensures { IfOk result (λ l. l ≡ self.now) }
     {
@@ -166,7 +166,7 @@ impl Letters {
         }
     }
 
-    /// Opens a message of a thread whose serial is at most 256.
+    /// Adds an open message of a thread whose serial is at most 256.
     pub fn open(&mut self, sender: ObjId, letter: OpenLetter)
         requires { IsThread sender }
         ensures { KeepsAt Kind.Thread self.old self.new sender (Some letter) }
@@ -175,8 +175,8 @@ impl Letters {
         keep(Kind::Thread, &mut self.places, sender, Some(letter));
     }
 
-    /// Closes the open message of a thread, and returns it; returns None, and changes nothing,
-    /// where the thread has none.
+    /// Removes and returns the open message of a thread. Returns None, and changes nothing, if it
+    /// has none.
     pub fn close(&mut self, sender: ObjId) -> Option<OpenLetter>
         ensures value { result ≡ kept_at Kind.Thread self.old sender }
         ensures kept { KeepsAt Kind.Thread self.old self.new sender None }
@@ -185,8 +185,8 @@ impl Letters {
     }
 }
 
-/// Delivers a letter to the mail of its receiver, a thread that is there. Returns an equal message.
-// a part of its caller, so that the letter is moved once less
+/// Delivers a letter to the mail of its receiver, which must exist. Returns an equal message.
+// inlined, so that the letter is moved once less
 #[inline(always)]
 pub fn deliver(threads: &mut Threads, receiver: ObjId, letter: OpenLetter) -> Message
     requires { IsSome (row_of threads.old receiver) }

@@ -1,5 +1,4 @@
-//! The state of the kernel: tables that agree with the book and with the records of the line in
-//! hand.
+//! The state of the kernel: tables that agree with the book and with the records of its open line.
 //!
 //! ```text
 //! operations of mcs_cancel, mcs_notify, mcs_ipc, mcs_caps
@@ -9,10 +8,10 @@
 //! the change that it is in the tables          replies, notifications, slots
 //! ```
 //!
-//! A primitive adds exactly its record (`hands` its two), and asks for no more than that it is
-//! allowed; a query answers what the definition says of all records so far. That the tables say of
-//! each id what the records say is the invariant of `State`, so what stands above names no table.
-//! `state` has the primitives and the queries, by what they change or answer; `changing`,
+//! A primitive adds exactly its record (`hands` its two), and requires only that the record is
+//! allowed; a query returns what the definition says of all records so far. The invariant of
+//! `State` is that the tables say of each id what the records say, so the crates above name no
+//! table. `state` has the primitives and the queries, by what they change or return; `changing`,
 //! `attending`, `returning` and `waking` are steps that operations share; `letters` and `queued`
 //! are the open messages and the threads of a queue.
 #![tactic(auto)]

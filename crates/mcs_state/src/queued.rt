@@ -3,7 +3,7 @@ use crate::state::State;
 use mcs_object_queues::Waiting;
 use mcs_types::ObjId;
 
-/// The threads of a queue that are left to name, first to last. It takes no memory.
+/// An iterator over the threads of a queue, first to last. It allocates nothing.
 #[derive(Drop)]
 pub struct Queued<'a, W: Waiting> {
     pub(crate) state: &'a State<W>,

@@ -1,4 +1,4 @@
-//! Contexts that pass to threads which hold none, and that go home where their threads wait (own).
+//! Gives contexts to threads that hold none, and sends them home when their threads wait (own).
 ghost use Rattle.std.specs.Prelude.{◌≡◌, IfSome};
 ghost use Rattle.mcs_types.specs.declared.id.Kind.{Kind};
 ghost use Rattle.mcs_types.specs.declared.record.Rec.{Rec};
@@ -15,7 +15,7 @@ use mcs_object_queues::Waiting;
 use mcs_types::{ObjId, Queue};
 
 /// Gives a context, if there is one, to a thread that holds none.
-// a part of its callers, so that the context does not go through memory
+// inlined, so that the context stays in registers
 #[inline(always)]
 pub fn give_back<W: Waiting>(state: &mut State<W>, context: Option<ObjId>, thread: ObjId)
     requires context { IfSome context (λ s. IsThere (so_far state.old) Kind.Context s) }
@@ -33,7 +33,7 @@ pub fn give_back<W: Waiting>(state: &mut State<W>, context: Option<ObjId>, threa
     }
 }
 
-/// Whether a context is homed at a notification.
+/// Returns whether a context is homed at a notification.
 fn is_homed_at<W: Waiting>(state: &State<W>, context: ObjId, notification: ObjId) -> bool
     ensures { result ≡ is_just (home_of (so_far state.now) context) notification }
 {
@@ -43,8 +43,8 @@ fn is_homed_at<W: Waiting>(state: &State<W>, context: ObjId, notification: ObjId
     }
 }
 
-/// The context that a thread holds, where it is homed at this notification and came along no call
-/// that has not ended.
+/// Returns the context that a thread holds, if it is homed at this notification and its chain is
+/// empty.
 fn context_at_home<W: Waiting>(
     state: &State<W>,
     thread: ObjId,
@@ -62,8 +62,8 @@ fn context_at_home<W: Waiting>(
     }
 }
 
-/// Takes from a thread the context that it holds, where that is homed at the notification by which
-/// the thread may wake, and came along no call that has not ended.
+/// Takes the context from a thread, if it is homed at the notification by which the thread may
+/// wake, and its chain is empty.
 fn go_home<W: Waiting>(state: &mut State<W>, thread: ObjId, notification: Option<ObjId>)
     requires room { HasRoomFor (gone_home thread notification) state.old }
     ensures { Makes (gone_home thread notification) state.old state.new }
@@ -74,9 +74,9 @@ fn go_home<W: Waiting>(state: &mut State<W>, thread: ObjId, notification: Option
     }
 }
 
-/// Queues a thread with a reply object. Its context goes home, where it is homed at the
-/// notification by which the thread may wake.
-// a part of its callers, which know the kind of the queue
+/// Queues a thread with a reply object. Its context goes home if it is homed at the notification by
+/// which the thread may wake.
+// inlined: callers know the kind of the queue
 #[inline(always)]
 pub fn stand<W: Waiting>(
     state: &mut State<W>,

@@ -35,7 +35,7 @@ use mcs_types::{
 use std::alloc::Global;
 use std::marker::Model;
 
-/// All tables, beside the book, whose open line has the records of the line in hand.
+/// All tables, beside the book, whose open line has the records made so far by the current entry.
 pub struct State<W: Waiting> {
     book: Book,
     threads: Threads,
@@ -48,8 +48,8 @@ pub struct State<W: Waiting> {
     sent: u32,
 }
 
-// By hand, so that it is a function of its own: a derived drop would be proved anew wherever a
-// state, a boot or a kernel is dropped.
+// Written by hand as a separate function: a derived drop would be proved again wherever a state, a
+// boot or a kernel is dropped.
 impl<W: Waiting> Drop for State<W> {
     fn drop(self) {
         let State {
@@ -66,7 +66,7 @@ impl<W: Waiting> Drop for State<W> {
     }
 }
 
-/// The tables of a state that is dropped, each if it is there.
+/// The tables of a dropped state, for their memory.
 #[derive(Drop)]
 struct Spare<W: Waiting> {
     book: Option<Book>,
@@ -79,7 +79,7 @@ struct Spare<W: Waiting> {
     slots: Option<Slots>,
 }
 
-/// No table.
+/// Returns an empty `Spare`.
 fn no_tables<W: Waiting>() -> Spare<W> {
     Spare {
         slots: None,
@@ -122,14 +122,14 @@ impl<W: Waiting> Model for State<W> {
 }
 
 impl<W: Waiting> State<W> {
-    /// A state with nothing made, and the room of all tables. What is tallied changes no answer.
+    /// Returns a state with no objects, and all tables allocated. `tallied` changes no result.
     pub fn new(alloc: Global, cores: u8, tallied: Tallied) -> Result<State<W>, OutOfMemory>
         ensures cores { IfOk result (λ s. s.book.boot.cores ≡ cores) }
         ensures boot { IfOk result (λ s. s.book.boot.lines ≡ []) }
         ensures lines { IfOk result (λ s. s.book.lines ≡ []) }
         ensures hand { IfOk result (λ s. s.hand ≡ []) }
     {
-        // Those whose letting go is long to prove come last.
+        // Fields whose drop takes long to prove come last.
         Ok(State {
             slots: Slots::new(alloc, &[], tallied)?,
             threads: Threads::new(alloc)?,
@@ -168,7 +168,7 @@ impl<W: Waiting> State<W> {
         }
     }
 
-    /// Clones the state in the memory of a spare one. OutOfMemory where memory is refused.
+    /// Clones the state in the memory of a spare one. `OutOfMemory` if an allocation fails.
     pub fn copy(&self, alloc: Global, spare: Option<State<W>>) -> Result<State<W>, OutOfMemory>
         ensures book { IfOk result (λ s. s.book ≡ self.now.book) }
         ensures hand { IfOk result (λ s. s.hand ≡ self.now.hand) }
@@ -177,7 +177,7 @@ impl<W: Waiting> State<W> {
             Some(spare) => spare.into_tables(),
             None => no_tables(),
         };
-        // Those whose letting go is long to prove come last.
+        // Fields whose drop takes long to prove come last.
         Ok(State {
             slots: self.slots.copy_all(alloc, spare.slots)?,
             threads: self.threads.copy(alloc, spare.threads)?,
@@ -198,7 +198,7 @@ impl<W: Waiting> State<W> {
         &self.book
     }
 
-    /// The book, with which the state ends: the tables are dropped.
+    /// Returns the book, and drops the tables.
     pub fn into_book(self) -> Book
         ensures { result.book ≡ self.book }
     {
@@ -216,7 +216,7 @@ impl<W: Waiting> State<W> {
         book
     }
 
-    /// Makes room for one line of the boot; that of its records is as it was.
+    /// Allocates room for one line of the boot, but none for its records.
     pub fn reserve_boot_line(&mut self) -> Result<(), OutOfMemory>
         ensures room { OnOk result (0 < self.new.boot_room) }
         ensures book { self.new.book ≡ self.old.book }
@@ -226,7 +226,7 @@ impl<W: Waiting> State<W> {
         self.book.reserve_boot_line()
     }
 
-    /// Makes room for one line of as many records as a line may have.
+    /// Allocates room for one line with as many records as a line may have.
     pub fn reserve(&mut self) -> Result<(), OutOfMemory>
         ensures room { OnOk result (HAND < self.new.room) }
         ensures book { self.new.book ≡ self.old.book }
@@ -236,7 +236,7 @@ impl<W: Waiting> State<W> {
         self.book.reserve(LINE_RECORDS - self.book.open_records())
     }
 
-    /// Moves the records in hand to a line of the boot, whose records they are.
+    /// Moves the open line's records to a line of the boot.
     pub fn close_boot_line(&mut self, line: BootLine)
         requires room { 0 < self.old.boot_room }
         requires boot { self.old.book.lines ≡ [] }
@@ -247,10 +247,10 @@ impl<W: Waiting> State<W> {
         self.book.add_boot_line(line);
     }
 
-    // The primitives that most lines make are inlined: of the choice among records the one that is
-    // made is left.
+    // The primitives of most lines are inlined, so that the compiler keeps only the arm for their
+    // record.
 
-    /// Moves the records in hand to a line of the book.
+    /// Moves the open line's records to a line of the book.
     #[inline(always)]
     pub fn close(&mut self, step: &Step, answer: &Answer)
         requires { length self.old.hand < self.old.room }
@@ -274,7 +274,7 @@ impl<W: Waiting> State<W> {
         self.book.note(Rec::Slot { cnode, index, cap });
     }
 
-    /// Sets the priority of a thread. A thread in a queue is queued anew.
+    /// Sets the priority of a thread. A queued thread is queued anew.
     pub fn prio(&mut self, thread: ObjId, priority: Prio)
         requires allowed { Allowed (so_far self.old) (Rec.Prio thread priority) }
         requires room { length self.old.hand + 1 < self.old.room }
@@ -296,7 +296,7 @@ impl<W: Waiting> State<W> {
     }
 
     /// Puts a thread into a queue; a receiver names its reply object.
-    // a part of its callers, which know the kind of the queue, as that of `parts`
+    // inlined, as `parts` is: callers know the kind of the queue
     #[inline(always)]
     pub fn joins(&mut self, thread: ObjId, queue: Queue, reply: Option<ObjId>)
         requires allowed { Allowed (so_far self.old) (Rec.Joins thread queue reply) }
@@ -393,7 +393,7 @@ impl<W: Waiting> State<W> {
         }
     }
 
-    /// Drops the open message of a sender, which has this number: nobody receives it (own).
+    /// Drops the open message of a sender, which has this number: no thread receives it (own).
     pub fn drops(&mut self, number: u32, sender: ObjId)
         requires allowed { Allowed (so_far self.old) (Rec.Dropped number) }
         requires open { IsNumberOf number (open_of (so_far self.old) sender) }
@@ -404,7 +404,7 @@ impl<W: Waiting> State<W> {
         self.letters.close(sender);
     }
 
-    /// Gives a context to this thread, or to nobody.
+    /// Gives a context to this thread, or to none.
     #[inline(always)]
     pub fn holds(&mut self, context: ObjId, thread: Option<ObjId>)
         requires allowed { Allowed (so_far self.old) (Rec.Holds context thread) }

@@ -10,7 +10,7 @@ use mcs_types::{
 };
 use std::alloc::Global;
 
-/// The objects that are made first.
+/// The objects that the boot makes first.
 const OBJECTS: [BootLine; 11] = [
     BootLine::CNode { radix: 5 },
     BootLine::Endpoint,
@@ -51,7 +51,7 @@ const SLOTS: &[(u8, Kind, u32, u8, u64)] = &[
     (25, Kind::Context, 5, 0, 0),
 ];
 
-/// A call that failed twice, or changed something where it failed.
+/// A call failed twice, or changed something although it failed.
 #[derive(Drop)]
 pub struct Failed;
 
@@ -107,7 +107,7 @@ fn slot(index: u8, obj: ObjId, rights: Rights, badge: u64) -> BootLine {
     }
 }
 
-/// Adds a line, once more where memory was refused; a refusal adds none.
+/// Adds a line, retrying once after a failed allocation; a refusal adds none.
 fn add(boot: &mut Boot, line: &BootLine) -> Result<(), Failed> {
     let before = boot.lines().len();
     match boot.add(*line) {
@@ -136,7 +136,8 @@ pub fn booted(alloc: Global) -> Result<Boot, Failed> {
     Ok(boot)
 }
 
-/// A message of so many words, 5 and 6 first, asked for once more where memory was refused.
+/// Returns a message of `count` words, the first two 5 and 6, retrying once after a failed
+/// allocation.
 fn message(alloc: Global, label: u64, count: usize) -> Result<Message, Failed> {
     let mut words = [0; MESSAGE_WORDS];
     for (i, word) in words.iter_mut().enumerate() {
@@ -150,7 +151,7 @@ fn message(alloc: Global, label: u64, count: usize) -> Result<Message, Failed> {
     made.ok_or(Failed)
 }
 
-/// An equal entry, asked for once more where memory was refused.
+/// Returns a copy of an entry, retrying once after a failed allocation.
 pub fn copy(alloc: Global, entry: &Entry) -> Result<Entry, Failed> {
     match entry.copy(alloc) {
         Ok(entry) => Ok(entry),
@@ -158,8 +159,8 @@ pub fn copy(alloc: Global, entry: &Entry) -> Result<Entry, Failed> {
     }
 }
 
-/// What the threads of the example enter: the first message is received, and then a call of 120
-/// words, which is answered with 60 by a reply and receive.
+/// Returns the entries of the example: a message is received, and then a call of 120 words gets a
+/// reply of 60 by ReplyRecv.
 pub fn entries(alloc: Global) -> Result<[(ObjId, Entry); 5], Failed> {
     let (first, second) = (object(Kind::Thread, 1), object(Kind::Thread, 2));
     let (cap, reply) = (2, 8);
@@ -185,7 +186,7 @@ pub fn entries(alloc: Global) -> Result<[(ObjId, Entry); 5], Failed> {
     ])
 }
 
-/// What a kernel tells of a thread: what it does, and the label and the number of words of its
+/// Returns what a kernel says of a thread: its status, and the label and the number of words of its
 /// mail.
 fn told(kernel: &Kernel<LinkedLines>, thread: ObjId) -> (Option<Status>, Option<(u64, usize)>) {
     let mail = match kernel.mail(thread) {
@@ -195,13 +196,13 @@ fn told(kernel: &Kernel<LinkedLines>, thread: ObjId) -> (Option<Status>, Option<
     (kernel.status(thread), mail)
 }
 
-/// What a kernel tells: how many lines its book has, and of the two threads.
+/// Returns what a kernel says: how many lines its book has, and the same of both threads.
 fn seen(kernel: &Kernel<LinkedLines>) -> (usize, [(Option<Status>, Option<(u64, usize)>); 2]) {
     let threads = [1, 2].map(|serial| told(kernel, object(Kind::Thread, serial)));
     (kernel.book().lines(), threads)
 }
 
-/// Enters, once more where memory was refused; a refusal changes nothing.
+/// Enters an entry, retrying once after a failed allocation; a refusal changes nothing.
 fn enter(
     alloc: Global,
     kernel: &mut Kernel<LinkedLines>,
@@ -225,7 +226,7 @@ fn add_trace(alloc: Global, book: &Book, text: &mut Vec<u8>) -> Result<(), Faile
     Ok(())
 }
 
-/// The trace of a book as a text, written once more where memory was refused.
+/// Returns the trace of a book, retrying once after a failed allocation.
 pub fn text_of(alloc: Global, book: &Book) -> Result<Vec<u8>, Failed> {
     let mut text = Vec::new(alloc);
     if add_trace(alloc, book, &mut text).is_err() {
@@ -235,7 +236,7 @@ pub fn text_of(alloc: Global, book: &Book) -> Result<Vec<u8>, Failed> {
     Ok(text)
 }
 
-/// The trace of the example by calls of the kernel.
+/// Returns the trace of the example, made by calls of the kernel.
 pub fn trace_of_calls(alloc: Global) -> Result<Vec<u8>, Failed> {
     let boot = booted(alloc)?;
     let mut kernel = match Kernel::new(alloc, &boot) {

@@ -1,5 +1,4 @@
-//! What is found of pages, texts and scripts that have a flaw, and of such as differ a little and
-//! have none.
+//! Pages, texts and scripts with a flaw, and similar ones without.
 use crate::forms::is_sequence;
 use crate::places::is_clear;
 use mcs_lab_check::{LabFault, check};
@@ -8,7 +7,7 @@ use mcs_sim::Source;
 use std::alloc::Global;
 use std::io::Write;
 
-/// Heights of a text and of another below it, and where the tip of an arrow is above them.
+/// Pages: the baselines of a text and of another below it, and the position of an arrow's tip.
 const PAGES: &[(u64, u64, u64)] = &[
     (43, 55, 106),
     (43, 54, 106),
@@ -17,7 +16,7 @@ const PAGES: &[(u64, u64, u64)] = &[
     (24, 55, 106),
 ];
 
-/// Tells of each page whether its texts stand clear.
+/// Writes for each page whether its texts touch nothing.
 fn tell_pages<W: Write>(alloc: Global, to: &mut W) -> Result<(), LabFault> {
     for &(height, below, tip) in PAGES {
         let page = format!(in alloc;
@@ -32,7 +31,7 @@ fn tell_pages<W: Write>(alloc: Global, to: &mut W) -> Result<(), LabFault> {
     Ok(())
 }
 
-/// Second lines of a text for Mermaid.
+/// Second lines of sequence diagrams, some of them malformed.
 const LINES: &[&str] = &[
     "    participant t1 as client (t1)",
     "    participant t1",
@@ -45,7 +44,7 @@ const LINES: &[&str] = &[
     "    Note over t1:",
 ];
 
-/// Tells of each line whether it has a form.
+/// Writes for each line whether it is well-formed.
 fn tell_lines<W: Write>(alloc: Global, to: &mut W) -> Result<(), LabFault> {
     for &line in LINES {
         let text = format!(in alloc; "sequenceDiagram\n{line}\n")?;
@@ -73,7 +72,7 @@ fn tell_fault<W: Write>(to: &mut W, verb: &str, fault: Option<LabFault>) -> Resu
     Ok(())
 }
 
-/// Tells of each script with names what is wrong with it, for drawing and for checking.
+/// Writes the faults of each script with names, for drawing and for checking.
 fn tell_names<W: Write>(alloc: Global, to: &mut W) -> Result<(), LabFault> {
     for &script in NAMES {
         let mut source = Source::new(script.as_bytes());
@@ -87,7 +86,7 @@ fn tell_names<W: Write>(alloc: Global, to: &mut W) -> Result<(), LabFault> {
     Ok(())
 }
 
-/// Tells what is found of each.
+/// Writes what is found for all pages, lines and scripts.
 pub fn tell_flaws<W: Write>(alloc: Global, to: &mut W) -> Result<(), LabFault> {
     tell_pages(alloc, to)?;
     tell_lines(alloc, to)?;

@@ -8,7 +8,7 @@
 //! Note over ID: TEXT
 //! ```
 
-/// Returns whether a word has the form of an id in a picture: a lowercase letter, then digits.
+/// Returns whether a word looks like an id in a picture: a lowercase letter, then digits.
 fn is_id(word: &str) -> bool {
     let mut letters = word.chars();
     match letters.next() {
@@ -21,8 +21,8 @@ fn is_id(word: &str) -> bool {
     }
 }
 
-/// Whether it is a text: some letters, and none that ends a statement; a letter may be written by
-/// its number or name, `#59;`.
+/// Returns whether it is a text: some letters, and none that ends a statement; a letter may be
+/// written as its code or name, `#59;`.
 fn is_text(text: &str) -> bool {
     let mut is_within = false;
     for letter in text.chars() {
@@ -37,7 +37,7 @@ fn is_text(text: &str) -> bool {
     !is_within && !text.trim().is_empty()
 }
 
-/// Whether it is an arrow between two ids.
+/// Returns whether it is an arrow between two ids.
 fn is_arrow(ends: &str) -> bool {
     for sign in ["-->>", "->>", "-)"] {
         if let Some((from, to)) = ends.split_once(sign) {
@@ -47,7 +47,7 @@ fn is_arrow(ends: &str) -> bool {
     false
 }
 
-/// Whether a line is a statement.
+/// Returns whether a line is a statement.
 fn is_statement(line: &str) -> bool {
     let Some(line) = line.strip_prefix("    ") else {
         return false;
@@ -67,7 +67,7 @@ fn is_statement(line: &str) -> bool {
     }
 }
 
-/// Whether each line of a text has its form, the first that of a sequence diagram.
+/// Returns whether each line of a text is well-formed, and the first begins a sequence diagram.
 pub fn is_sequence(page: &str) -> bool {
     let mut lines = page.lines();
     let Some("sequenceDiagram") = lines.next() else {

@@ -8,7 +8,7 @@ use std::alloc::{AllocError, Global};
 use std::fs;
 use std::io::Write;
 
-/// The scripts, and for each what is made of it.
+/// The scripts, with the file and the format of the picture of each.
 const PICTURES: &[(&str, &str, Format)] = &[
     (
         "gallery/passive-server.mcs",
@@ -70,7 +70,7 @@ const PICTURES: &[(&str, &str, Format)] = &[
     ),
 ];
 
-/// Draws each script of the gallery, and writes what is found of the picture.
+/// Draws each script of the gallery, and writes how the picture compares with its file.
 pub fn draw_gallery<W: Write>(rt: &HostRuntime, to: &mut W) -> Result<(), LabFault> {
     for &(script, picture, format) in PICTURES {
         draw_file(rt, to, script, picture, format)?;
@@ -78,7 +78,7 @@ pub fn draw_gallery<W: Write>(rt: &HostRuntime, to: &mut W) -> Result<(), LabFau
     Ok(())
 }
 
-/// Scripts, and the serials of the threads whose lanes are drawn, in their order.
+/// Scripts, with the serials of the threads whose lanes are drawn, in order.
 const LANES: &[(&str, &[u32])] = &[
     ("gallery/passive-server.mcs", &[3, 1]),
     ("gallery/nested-calls.mcs", &[2]),
@@ -98,7 +98,7 @@ fn threads_of(alloc: Global, serials: &[u32]) -> Result<Vec<ObjId>, AllocError> 
     Ok(threads)
 }
 
-/// Draws each of these scripts with some lanes alone, and writes what is found of the picture.
+/// Draws each of these scripts with only some lanes, and writes what is wrong with the picture.
 pub fn draw_lanes<W: Write>(rt: &HostRuntime, to: &mut W) -> Result<(), LabFault> {
     for &(script, serials) in LANES {
         let Ok(file) = fs::open(rt, script) else {

@@ -1,7 +1,7 @@
-//! What the first example gives by calls of the kernel, and then each script of standard input:
-//! what it gives is written, and that it gives the same in pieces, and its trace itself, is tested.
-//! `#!` begins the name of the script after its line; `#!+` that of lines which are put after the
-//! script that `#!` named last. A call that memory was refused to is given once more.
+//! Replays the first example by calls of the kernel, and then each script of standard input, also
+//! in pieces, and each trace again. `#!` begins a line that names the script after it; `#!+` one
+//! that names lines to append to the script that `#!` named last. A call whose allocation fails is
+//! retried once.
 ghost use Rattle.std.specs.Prelude.{◌≤◌, length};
 
 use crate::calls::trace_of_calls;
@@ -10,17 +10,16 @@ use mcs_sim::{SimFault, Source};
 use std::alloc::{AllocError, Global};
 use std::io::{self, Input, Write};
 
-/// With this the name of a script begins, which ends with its line.
+/// The beginning of a line that names a script.
 const NAME: &[u8] = b"#!";
 
-/// With this the name of lines begins that follow the script named last.
+/// The beginning of a line that names lines to follow the script named last.
 const MORE: &[u8] = b"#!+";
 
 /// The most bytes of all scripts.
 const MOST: usize = 1 << 20;
 
-/// The scripts of standard input. The room for them is asked for once more where memory was
-/// refused.
+/// Returns the scripts of standard input. Retries the allocation of their buffer once.
 fn read_scripts(rt: &HostRuntime) -> Result<Vec<u8>, SimFault> {
     let mut text = match Vec::with_capacity(rt.alloc(), MOST) {
         Ok(text) => text,
@@ -42,7 +41,7 @@ fn read_scripts(rt: &HostRuntime) -> Result<Vec<u8>, SimFault> {
     Err(SimFault::Read)
 }
 
-/// How many bytes of a text are its first line, with the newline, where it names a script.
+/// Returns the length of a text's first line with its newline, if it names a script; else 0.
 fn name_length(text: &[u8]) -> usize
     ensures { result ≤ length text.now }
 {
@@ -55,7 +54,7 @@ fn name_length(text: &[u8]) -> usize
     }
 }
 
-/// How many bytes are before the next name of a script.
+/// Returns how many bytes precede the next name of a script.
 fn script_length(text: &[u8]) -> usize
     ensures { result ≤ length text.now }
 {
@@ -65,7 +64,7 @@ fn script_length(text: &[u8]) -> usize
     }
 }
 
-/// Writes the name of a script, what it gives, and what is wrong with that, if anything is.
+/// Writes the name of a script, its trace and fault, and what is wrong with these, if anything.
 fn write_given(rt: &HostRuntime, name: &[u8], script: &[u8]) -> io::Result<()> {
     let Ok((given, wrong)) = given_by(rt.alloc(), script) else {
         return rt.println("memory was refused twice");
@@ -82,7 +81,7 @@ fn write_given(rt: &HostRuntime, name: &[u8], script: &[u8]) -> io::Result<()> {
     Ok(())
 }
 
-/// Two texts, one after the other.
+/// Returns two texts, one after the other.
 fn joined(alloc: Global, text: &[u8], more: &[u8]) -> Result<Vec<u8>, AllocError> {
     let mut script = Vec::with_capacity(alloc, text.len().saturating_add(more.len()))?;
     script.extend_from_slice(text)?;
@@ -90,8 +89,8 @@ fn joined(alloc: Global, text: &[u8], more: &[u8]) -> Result<Vec<u8>, AllocError
     Ok(script)
 }
 
-/// Writes what a script gives after another. The room for both is asked for once more where memory
-/// was refused.
+/// Writes the trace and fault of a script that continues another. Retries the allocation of both
+/// once.
 fn write_behind(rt: &HostRuntime, name: &[u8], base: &[u8], lines: &[u8]) -> io::Result<()> {
     let script = match joined(rt.alloc(), base, lines) {
         Ok(script) => script,
@@ -100,11 +99,11 @@ fn write_behind(rt: &HostRuntime, name: &[u8], base: &[u8], lines: &[u8]) -> io:
     write_given(rt, name, &script)
 }
 
-/// Writes what each script of a text gives, after its name.
+/// Writes for each script of a text its name, its trace and its fault.
 fn write_all(rt: &HostRuntime, text: &[u8]) -> io::Result<()> {
     let mut rest = text;
     let mut base: &[u8] = &[];
-    // Each turn takes a byte at least.
+    // Each round takes at least one byte.
     for _ in 0..text.len() {
         if rest.is_empty() {
             break;
@@ -122,8 +121,8 @@ fn write_all(rt: &HostRuntime, text: &[u8]) -> io::Result<()> {
     Ok(())
 }
 
-/// Writes the trace of the first example by calls, and what each script of standard input gives.
-/// True where they could be read and written.
+/// Writes the trace of the first example by calls, and the results of each script of standard
+/// input. Returns true if all could be read and written.
 pub fn tell_given(rt: &HostRuntime) -> bool {
     match trace_of_calls(rt.alloc()) {
         Ok(text) => {

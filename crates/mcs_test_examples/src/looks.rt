@@ -1,4 +1,4 @@
-//! Pictures that are drawn and looked at.
+//! Draws pictures and checks them.
 use crate::forms::is_sequence;
 use crate::places::is_clear;
 use mcs_lab_render::{Asked, Format, draw_script};
@@ -8,7 +8,7 @@ use std::alloc::{AllocError, Global};
 use std::io::Read;
 use std::str;
 
-/// What is wrong with the parts of a page; None where nothing is.
+/// Returns what is wrong with the parts of a page; None if nothing is.
 fn flaw_of(alloc: Global, page: &[u8], format: Format) -> Result<Option<&'static str>, AllocError> {
     let Ok(page) = str::from_utf8(page) else {
         return Ok(Some("NO TEXT"));
@@ -27,8 +27,8 @@ fn flaw_of(alloc: Global, page: &[u8], format: Format) -> Result<Option<&'static
     })
 }
 
-/// Draws a script, and tells whether the picture is the one that is kept, and whether its texts
-/// stand clear.
+/// Draws a script, and returns whether the picture is the expected one, and whether its texts touch
+/// nothing.
 pub fn look_at<R: Read + Drop>(
     alloc: Global,
     script: R,
@@ -62,8 +62,8 @@ fn count_lanes(page: &[u8]) -> usize {
     count
 }
 
-/// Draws a script with the lanes of these threads, and tells whether it has these, and whether its
-/// texts stand clear.
+/// Draws a script with the lanes of these threads, and returns whether it has these, and whether
+/// its texts touch nothing.
 pub fn look_at_lanes<R: Read + Drop>(alloc: Global, script: R, threads: &[ObjId]) -> &'static str {
     let mut drawn = Vec::new(alloc);
     let asked = Asked {

@@ -1,12 +1,10 @@
-//! The scripts of `examples/` that consist of steps are checked, for each says what its steps
-//! answer, and drawn, as those of its gallery: each picture is compared with the one that is kept
-//! beside its script, and looked at. So are pages, texts and scripts with a flaw. Scripts of what a
-//! kernel reports are checked alone. All orders of the scripts of users are gone through, and plans
-//! are compiled. Told is besides what a search finds of a small system, which texts patterns match,
-//! what is stuck at the end of some scripts, and what the scripts of standard input give, which is
-//! all that is reported where no file is named (so `tests/each-allocation.sh` has each allocation
-//! refused in turn, and wants the same traces). With a number alone, a byte of each plan is changed
-//! so many times, and no more is done.
+//! Checks and draws the scripts of `examples/` that consist of steps, and compares each picture
+//! with the one beside its script. Scripts about what a kernel reports are only checked. Explores
+//! the scripts of users, compiles the plans, searches a small system, matches patterns, and reports
+//! what is stuck at the end of some scripts. Then replays the scripts of standard input; without
+//! files it does only this, so that `tests/each-allocation.sh` can fail each allocation in turn and
+//! compare the traces. With a number as its only argument, it changes a byte of each plan this many
+//! times, and does nothing else.
 #![tactic(auto)]
 
 mod calls;
@@ -50,7 +48,7 @@ fn check_file<W: Write + Drop>(rt: &HostRuntime, to: &mut W, path: &str) -> Resu
     check(rt.alloc(), &mut Source::new(file), to)
 }
 
-/// Draws the script of a file, and writes what is found of the picture.
+/// Draws the script of a file, and writes how the picture compares with its file.
 fn draw_file<W: Write>(
     rt: &HostRuntime,
     to: &mut W,
@@ -66,7 +64,7 @@ fn draw_file<W: Write>(
     Ok(())
 }
 
-/// Checks and draws the scripts of all files. True where each holds.
+/// Checks and draws the scripts of all files. Returns true if each holds.
 fn check_all<W: Write + Drop>(
     rt: &HostRuntime,
     to: &mut W,
@@ -83,8 +81,8 @@ fn check_all<W: Write + Drop>(
     Ok(all_hold)
 }
 
-/// Scripts of what a kernel reports: what its threads do, what last reached them, whatever else is
-/// asked of it, and where addresses lead.
+/// Scripts about what a kernel reports: the status and mail of threads, other questions, and where
+/// addresses lead.
 const REPORTS: &[&str] = &[
     "kernel/message.mcs",
     "kernel/signal.mcs",
@@ -95,7 +93,7 @@ const REPORTS: &[&str] = &[
     "kernel/lookup.mcs",
 ];
 
-/// Checks these scripts. True where each holds.
+/// Checks these scripts. Returns true if each holds.
 fn check_reports<W: Write + Drop>(rt: &HostRuntime, to: &mut W) -> Result<bool, LabFault> {
     let mut all_hold = true;
     for path in REPORTS {
@@ -105,11 +103,11 @@ fn check_reports<W: Write + Drop>(rt: &HostRuntime, to: &mut W) -> Result<bool, 
     Ok(all_hold)
 }
 
-/// How many times a byte of each plan is changed, where no number is given.
+/// How many times a byte of each plan is changed by default.
 const CHANGES: usize = 50;
 
-/// Checks the scripts of all files, draws them and the gallery, explores, compiles, and tells what
-/// is found. True where each script holds.
+/// Checks and draws the scripts of all files, draws the gallery, explores, compiles, and writes the
+/// results. Returns true if each script holds.
 fn tell_all(rt: &HostRuntime, paths: &[String]) -> Result<bool, LabFault> {
     let mut to = BufWriter::new(rt.alloc(), io::writer(rt))?;
     let all_hold = check_all(rt, &mut to, paths)?;
@@ -127,7 +125,7 @@ fn tell_all(rt: &HostRuntime, paths: &[String]) -> Result<bool, LabFault> {
     Ok(all_hold && reports_hold)
 }
 
-/// Changes plans so many times, and tells how many went wrong.
+/// Changes plans `times` times, and writes how many runs went wrong.
 fn tell_changes(rt: &HostRuntime, times: usize) -> Result<bool, LabFault> {
     let mut to = BufWriter::new(rt.alloc(), io::writer(rt))?;
     try_changes(rt, &mut to, times)?;
@@ -135,7 +133,7 @@ fn tell_changes(rt: &HostRuntime, times: usize) -> Result<bool, LabFault> {
     Ok(true)
 }
 
-/// The number that is given in place of files, if one is.
+/// Returns the number given in place of files, if there is one.
 fn number_of(paths: &[String]) -> Option<usize> {
     match paths {
         [word] => word.as_str().parse::<usize>().ok(),
@@ -143,7 +141,7 @@ fn number_of(paths: &[String]) -> Option<usize> {
     }
 }
 
-/// Tells what the words after the program's name ask for. True where all holds.
+/// Does what the words after the program's name ask for. Returns true if all holds.
 fn tell(rt: &HostRuntime, paths: &[String]) -> Result<bool, LabFault> {
     if let Some(times) = number_of(paths) {
         return tell_changes(rt, times);
@@ -152,7 +150,7 @@ fn tell(rt: &HostRuntime, paths: &[String]) -> Result<bool, LabFault> {
     Ok(tell_given(rt) && all_hold)
 }
 
-/// The words of the command line, asked for once more where memory was refused.
+/// Returns the words of the command line, retrying once after a failed allocation.
 fn words(rt: &HostRuntime) -> Result<Vec<String>, SimFault> {
     match arguments(rt) {
         Ok(words) => Ok(words),

@@ -1,5 +1,5 @@
-//! All orders of the scripts of users in `examples/explore/`, `examples/programs/` and
-//! `examples/microkit/`: what is reported of each, and how the scripts replay that show it.
+//! Explores the scripts of users in `examples/explore/`, `examples/programs/` and
+//! `examples/microkit/`: their reports, and whether the saved scripts replay.
 use crate::walks::draw_walks;
 use mcs_explore_questions::ExploreFault;
 use mcs_explore_report::{Output, Saves, UserScript, Wanted, explore_script};
@@ -9,7 +9,7 @@ use std::alloc::Global;
 use std::fs;
 use std::io::Write;
 
-/// The scripts.
+/// The scripts to explore.
 pub const SCRIPTS: &[&str] = &[
     "explore/late-pick.mcs",
     "explore/suspended-calls.mcs",
@@ -48,7 +48,7 @@ pub const SCRIPTS: &[&str] = &[
     "microkit/files-notified.mcs",
 ];
 
-/// Those that are explored once more with exact keys.
+/// Scripts that are explored also with exact keys.
 const EXACT: &[&str] = &[
     "explore/moves.mcs",
     "explore/slots.mcs",
@@ -59,7 +59,7 @@ const EXACT: &[&str] = &[
     "explore/made-waits.mcs",
 ];
 
-/// Scripts of users that make objects, of which each sees what a key leaves out
+/// Scripts of users that make objects, each sensitive to something that a key might leave out
 /// (`tests/canonical.py`): they are explored both ways.
 const MADE: &[&str] = &[
     "explore/made-awaited.mcs",
@@ -87,24 +87,25 @@ const MADE: &[&str] = &[
     "explore/made-words.mcs",
 ];
 
-/// One that is reported as JSON, too: its ends name objects that users make by slots.
+/// A script that is also reported as JSON: its ends name objects made by users by slots.
 const AS_JSON: &str = "explore/made-waits.mcs";
 
-/// How many budgets of states are tried with each script, from one state on.
+/// How many budgets of states are tried with each script, counted up from one.
 const BUDGETS: usize = 24;
 
-/// Scripts, and what follows them, each alone: questions, and lines of programs, most with a fault.
+/// Scripts, and lines to append, each separately: questions and lines of programs, most with a
+/// fault.
 const ASKED: &[(&str, &str)] = &[
     ("explore/asked.mcs", "explore/questions.txt"),
     ("programs/faults.mcs", "programs/faults.txt"),
 ];
 
-/// A boot, and after each line `%` random entries or programs of its users: by
+/// A boot, and after each line `%` random entries or programs of its users, made by
 /// `tests/random-orders.py --data` and `--programs --data`.
 const RANDOM: &[&str] = &["explore/random.txt", "programs/random.txt"];
 
-/// The scripts that were kept: how many, of how many the kernel accepts each step, in how many each
-/// answer is the one that is after its step, and how many steps they have in all.
+/// The saved scripts: how many there are, of how many the kernel accepts each step, in how many
+/// each answer is the one after its step, and how many steps they have in all.
 #[derive(Drop)]
 struct Replayed {
     count: u64,
@@ -113,7 +114,7 @@ struct Replayed {
     steps: usize,
 }
 
-/// How many steps a script has: lines that begin with a digit.
+/// Returns how many steps a script has: lines that begin with a digit.
 pub fn count_steps(text: &[u8]) -> usize {
     let mut count: usize = 0;
     let mut is_first = true;
@@ -126,7 +127,7 @@ pub fn count_steps(text: &[u8]) -> usize {
     count
 }
 
-/// Whether a replay of a script lets in each of its steps.
+/// Returns whether a replay of a script accepts each of its steps.
 pub fn is_whole(alloc: Global, text: &[u8]) -> bool {
     let Ok(mut run) = ReplayRun::new(alloc) else {
         return false;
@@ -140,7 +141,7 @@ pub fn is_whole(alloc: Global, text: &[u8]) -> bool {
     }
 }
 
-/// Whether a script holds by the answers that are in it.
+/// Returns whether the answers in a script hold.
 pub fn holds(alloc: Global, text: &[u8]) -> Result<bool, LabFault> {
     let mut told = Vec::new(alloc);
     let all_hold = check(alloc, &mut Source::new(text), &mut told)?;
@@ -171,7 +172,7 @@ impl Saves for Replayed {
     }
 }
 
-/// How far a search goes.
+/// Returns the limits of a search.
 fn wanted(is_exact: bool) -> Wanted {
     Wanted {
         states: 10_000,
@@ -180,7 +181,7 @@ fn wanted(is_exact: bool) -> Wanted {
     }
 }
 
-/// How it is reported.
+/// The form of the report.
 const OUTPUT: Output = Output {
     with_answers: true,
     is_json: false,
@@ -271,12 +272,12 @@ impl Saves for Nowhere {
     }
 }
 
-/// Returns whether a line is of an end, of users that are stuck or of a question.
+/// Returns whether a line is about an end, stuck users or a question.
 fn is_reported(line: &[u8]) -> bool {
     line.starts_with(b"end") || line.starts_with(b"stuck") || line.starts_with(b"question")
 }
 
-/// Asks a question after a script, and tells what comes of it: the lines of questions, the verdict
+/// Appends a question to a script, explores it, and writes the lines about questions, the verdict
 /// and the exit status.
 fn ask<W: Write>(
     alloc: Global,
@@ -309,7 +310,7 @@ fn ask<W: Write>(
     Ok(())
 }
 
-/// Asks each question of a file of a script.
+/// Asks each question in the file of a script.
 fn ask_all<W: Write>(
     rt: &HostRuntime,
     to: &mut W,
@@ -350,7 +351,7 @@ fn write_counts<W: Write>(to: &mut W, report: &[u8]) -> Result<(), ExploreFault>
     Ok(())
 }
 
-/// Explores the script of a file, by default and with exact keys, and writes what was counted.
+/// Explores the script of a file, by default and with exact keys, and writes the counts.
 fn explore_made<W: Write>(rt: &HostRuntime, to: &mut W, path: &str) -> Result<(), ExploreFault> {
     writeln!(to, "# {path}")?;
     let Ok(script) = fs::read(rt, path) else {
@@ -360,7 +361,7 @@ fn explore_made<W: Write>(rt: &HostRuntime, to: &mut W, path: &str) -> Result<()
     write_counts(to, &report_on(rt.alloc(), &script, wanted(true))?)
 }
 
-/// Returns what is compared of a line: of an end its kind, and not how often it comes.
+/// Returns the part of a line that is compared: of an end its kind, not its count.
 fn compared(line: &[u8]) -> &[u8] {
     if line.starts_with(b"end ") {
         match line.iter().position(|byte| *byte == b',') {
@@ -390,7 +391,7 @@ fn are_alike(one: &[u8], other: &[u8]) -> bool {
     false
 }
 
-/// Explores random scripts, by default and with exact keys, and says how many reports are alike.
+/// Explores random scripts, by default and with exact keys, and writes how many reports are alike.
 fn explore_random<W: Write>(rt: &HostRuntime, to: &mut W, path: &str) -> Result<(), ExploreFault> {
     let Ok(text) = fs::read(rt, path) else {
         return Err(ExploreFault::Lab(LabFault::Read));
@@ -428,8 +429,8 @@ fn states_in(report: &[u8]) -> usize {
     count
 }
 
-/// Explores each script with several budgets of states, and says in how many searches all of the
-/// budget was found, and in how many more.
+/// Explores each script with several budgets of states, and writes how many searches used the whole
+/// budget, and how many exceeded it.
 fn explore_budgets<W: Write>(rt: &HostRuntime, to: &mut W) -> Result<(), ExploreFault> {
     let mut count: u64 = 0;
     let mut full: u64 = 0;
@@ -456,7 +457,7 @@ fn explore_budgets<W: Write>(rt: &HostRuntime, to: &mut W) -> Result<(), Explore
     Ok(())
 }
 
-/// Explores all scripts, with budgets too, and random ones, draws runs, and asks all questions.
+/// Explores all scripts, also with budgets, and random ones, draws runs, and asks all questions.
 fn try_all<W: Write + Drop>(rt: &HostRuntime, to: &mut W) -> Result<(), ExploreFault> {
     for &path in SCRIPTS {
         explore_file(rt, to, path, false)?;
@@ -479,8 +480,8 @@ fn try_all<W: Write + Drop>(rt: &HostRuntime, to: &mut W) -> Result<(), ExploreF
     Ok(())
 }
 
-/// Explores all scripts and random ones, and asks all questions. A fault is written where the rest
-/// would come.
+/// Explores all scripts and random ones, and asks all questions. A fault is written in place of the
+/// rest.
 pub fn explore_all<W: Write + Drop>(rt: &HostRuntime, to: &mut W) -> Result<(), LabFault> {
     if let Err(fault) = try_all(rt, to) {
         writeln!(to, "{fault}")?;

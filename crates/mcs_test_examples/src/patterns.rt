@@ -1,9 +1,9 @@
-//! Patterns, and whether each stands for a text.
+//! Patterns, and whether each matches a text.
 use mcs_explore_questions::is_match;
 use mcs_lab_check::LabFault;
 use std::io::Write;
 
-/// Patterns and texts. Nothing has one word, which is empty, and spaces are between such words.
+/// Patterns and texts. An empty text has one empty word; single spaces separate words.
 const PATTERNS: &[(&str, &str)] = &[
     ("got * 7", "got 9 7"),
     ("got * 7", "got 9 7 5"),
@@ -19,7 +19,7 @@ const PATTERNS: &[(&str, &str)] = &[
     ("", "got"),
 ];
 
-/// Tells of each pattern whether it stands for its text.
+/// Writes for each pattern whether it matches its text.
 pub fn tell_patterns<W: Write>(to: &mut W) -> Result<(), LabFault> {
     for &(pattern, text) in PATTERNS {
         let stands = is_match(pattern.as_bytes(), text.as_bytes());

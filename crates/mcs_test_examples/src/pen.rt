@@ -11,7 +11,7 @@ pub struct Place {
 }
 
 impl Place {
-    /// Whether two boxes have a point within both.
+    /// Returns whether two boxes overlap.
     pub fn is_on(self, other: Place) -> bool {
         self.left < other.right
             && other.left < self.right
@@ -20,7 +20,7 @@ impl Place {
     }
 }
 
-/// How far the tip of an arrow goes back from where it points, and to each side of its line.
+/// The length of an arrow's tip, and its extent to each side of the line.
 const TIP: u64 = 10;
 
 const HALF_TIP: u64 = 4;
@@ -31,14 +31,14 @@ pub struct Pen {
     x: u64,
     y: u64,
     command: char,
-    /// The number before the comma, where there was one.
+    /// The number before the comma, if there was one.
     first: Option<u64>,
     number: u64,
     is_to_right: bool,
 }
 
 impl Pen {
-    /// A pen that has drawn nothing.
+    /// Returns a pen before its first command.
     pub fn new() -> Pen {
         Pen {
             x: 0,
@@ -50,7 +50,7 @@ impl Pen {
         }
     }
 
-    /// Goes to a place, and leaves a box around the line, which is one wide.
+    /// Moves to a position, and adds the box around the line, whose width is 1.
     fn line_to(&mut self, marks: &mut Vec<Place>, x: u64, y: u64) -> Result<(), AllocError> {
         marks.push(Place {
             left: self.x.min(x).saturating_sub(1),
@@ -64,7 +64,7 @@ impl Pen {
         Ok(())
     }
 
-    /// Does the command whose numbers were read.
+    /// Performs the command whose numbers were read.
     fn obey(&mut self, marks: &mut Vec<Place>) -> Result<(), AllocError> {
         let (x, y) = match (self.command, self.first) {
             ('H', _) => (self.number, self.y),
@@ -80,7 +80,7 @@ impl Pen {
         self.line_to(marks, x, y)
     }
 
-    /// Reads a letter of the line: M, L, H and V begin a command, and numbers follow.
+    /// Reads a character of the path: M, L, H and V begin a command, and numbers follow.
     fn read(&mut self, marks: &mut Vec<Place>, letter: char) -> Result<(), AllocError> {
         match letter.to_digit(10) {
             Some(digit) => {
@@ -101,7 +101,7 @@ impl Pen {
         Ok(())
     }
 
-    /// Follows a line to its end, where the tip of the arrow is.
+    /// Follows a path to its end, where the arrow's tip is.
     pub fn follow(&mut self, marks: &mut Vec<Place>, line: &str) -> Result<(), AllocError> {
         for letter in line.chars() {
             self.read(marks, letter)?;

@@ -1,24 +1,23 @@
-//! Where everything is on a page of SVG, whose marks have a line each: the boxes of all texts, and
-//! those of bars and arrows.
+//! The boxes of all texts, bars and arrows on an SVG page, which has one element a line.
 use crate::pen::{Pen, Place};
 use std::alloc::{AllocError, Global};
 use unicode_width::UnicodeWidthChar;
 
-/// The width of a column of a text, and how far a text goes up and down from its baseline.
+/// The width of a character, and how far a text extends above and below its baseline.
 const COLUMN: u64 = 7;
 
 const UP: u64 = 9;
 
 const DOWN: u64 = 3;
 
-/// What is between these words and the next quote.
+/// Returns what is between these words and the next quote.
 fn attribute<'a>(mark: &'a str, words: &str) -> Option<&'a str> {
     let (_, behind) = mark.split_once(words)?;
     let (value, _) = behind.split_once('"')?;
     Some(value)
 }
 
-/// The number that is there.
+/// Returns the number after these words.
 fn number(mark: &str, words: &str) -> Option<u64> {
     match attribute(mark, words)?.parse::<u64>() {
         Ok(number) => Some(number),
@@ -26,7 +25,7 @@ fn number(mark: &str, words: &str) -> Option<u64> {
     }
 }
 
-/// How many columns a text takes, in which `&lt;` and the like are one letter.
+/// Returns the width of a text in characters, counting an escape such as `&lt;` as one.
 fn columns(text: &str) -> u64 {
     let mut columns: u64 = 0;
     let mut is_within = false;
@@ -113,7 +112,7 @@ impl Places {
         Ok(())
     }
 
-    /// Whether a text touches no bar, no arrow, and none of the texts after it.
+    /// Returns whether a text touches no bar, no arrow, and none of the texts after it.
     fn stands_clear(&self, at: usize, place: Place) -> bool {
         self.marks.iter().all(|mark| !place.is_on(*mark))
             && self
@@ -124,7 +123,7 @@ impl Places {
     }
 }
 
-/// Whether a page has texts, and none of them touches another, a bar or an arrow.
+/// Returns whether a page has texts, and none of them touches another, a bar or an arrow.
 pub fn is_clear(alloc: Global, page: &str) -> Result<bool, AllocError> {
     let mut places = Places {
         texts: Vec::new(alloc),

@@ -43,7 +43,7 @@ const USERS: &[&str] = &[
 /// Plans with a fault, and what is reported of each.
 const FAULTS: &[&str] = &["plans/faults", "microkit/faults"];
 
-/// What a file holds.
+/// Returns what a file holds.
 fn bytes_of(rt: &HostRuntime, path: &str) -> Result<Vec<u8>, LabFault> {
     fs::read(rt, path).map_err(|_| LabFault::Read)
 }
@@ -58,7 +58,7 @@ fn plan_of(rt: &HostRuntime, name: &str) -> Result<Vec<u8>, LabFault> {
     bytes_of(rt, format!(in rt.alloc(); "{name}.plan")?.as_str())
 }
 
-/// What is said of a text that is kept.
+/// Returns the word for whether a text is the expected one.
 fn word_of(is_kept: bool) -> &'static str {
     if is_kept { "as kept" } else { "NOT AS KEPT" }
 }
@@ -70,7 +70,7 @@ fn text_of(alloc: Global, compiled: &Compiled) -> Result<String, LabFault> {
     Ok(String::from_utf8_lossy(alloc, &text)?)
 }
 
-/// The script of a plan, or what is reported of its fault.
+/// Returns the script of a plan, or the message about its fault.
 fn told_of(alloc: Global, plan: &[u8]) -> Result<String, LabFault> {
     match load(alloc, plan) {
         Ok(loaded) => text_of(alloc, &loaded.compiled),
@@ -78,7 +78,7 @@ fn told_of(alloc: Global, plan: &[u8]) -> Result<String, LabFault> {
     }
 }
 
-/// The trace of a script; None where it has a fault.
+/// The trace of a script; None if it has a fault.
 fn trace_of(alloc: Global, script: &[u8]) -> Result<Option<Vec<u8>>, LabFault> {
     let mut source = Source::new(script);
     let mut trace = Vec::new(alloc);
@@ -88,7 +88,7 @@ fn trace_of(alloc: Global, script: &[u8]) -> Result<Option<Vec<u8>>, LabFault> {
     Ok(if done { Some(trace) } else { None })
 }
 
-/// Compares a plan's script with the one that is kept, and replays it where it has steps.
+/// Compares a plan's script with the expected one, and replays it if it has steps.
 fn compare<W: Write>(
     rt: &HostRuntime,
     to: &mut W,
@@ -106,7 +106,7 @@ fn compare<W: Write>(
     Ok(())
 }
 
-/// Whether two steps were done, and none refused.
+/// Returns whether the trace has two answers `done` and no refusal.
 fn are_done(alloc: Global, trace: &[u8]) -> Result<bool, LabFault> {
     let text = String::from_utf8_lossy(alloc, trace)?;
     let done = text.lines().filter(|line| *line == "= done").count();
@@ -138,7 +138,7 @@ const LINES: &str = "\
 # t3
 ";
 
-/// The same with names.
+/// The same lines with names.
 const NAMED: &str = "\
 0 root mint 1 62 9 64 wp 101
 + slot anna.space 1 srv wp 101
@@ -146,7 +146,7 @@ const NAMED: &str = "\
 # t3
 ";
 
-/// Writes the map of a plan, and a trace with its names.
+/// Writes the table of a plan's names, and a trace with its names.
 fn try_names<W: Write>(rt: &HostRuntime, to: &mut W) -> Result<(), LabFault> {
     let kept = read_text(rt, "gallery/own-spaces.map")?;
     let Ok(compiled) = compile_text(rt.alloc(), &plan_of(rt, "gallery/own-spaces")?) else {
@@ -162,7 +162,7 @@ fn try_names<W: Write>(rt: &HostRuntime, to: &mut W) -> Result<(), LabFault> {
     Ok(())
 }
 
-/// Compares what is reported of each plan with a fault.
+/// Compares the messages about plans with a fault.
 fn try_faults<W: Write>(rt: &HostRuntime, to: &mut W, name: &str) -> Result<(), LabFault> {
     let faults = read_text(rt, format!(in rt.alloc(); "{name}.txt")?.as_str())?;
     let wanted = read_text(rt, format!(in rt.alloc(); "{name}.told")?.as_str())?;
@@ -180,7 +180,7 @@ fn try_faults<W: Write>(rt: &HostRuntime, to: &mut W, name: &str) -> Result<(), 
     Ok(())
 }
 
-/// Whether a plan gives a script that runs without a fault, or has a fault itself.
+/// Returns whether a plan gives a script that replays without a fault, or has a fault itself.
 fn is_right(alloc: Global, plan: &[u8]) -> Result<bool, LabFault> {
     match compile_text(alloc, plan) {
         Ok(compiled) => Ok(trace_of(alloc, &compiled.read)?.is_some()),
@@ -200,8 +200,8 @@ fn changed(plan: &[u8], alloc: Global, random: &mut Pcg32) -> Result<Vec<u8>, La
     Ok(changed)
 }
 
-/// Changes a byte of each plan so many times: each gives a script, which was read back and runs
-/// without a fault, or a fault of the plan. Tells how many did not.
+/// Changes a byte of each plan `times` times: each result must give a script that replays without a
+/// fault, or a fault of the plan. Writes how many did not.
 pub fn try_changes<W: Write>(rt: &HostRuntime, to: &mut W, times: usize) -> Result<(), LabFault> {
     let mut random = Pcg32::new(1, 1);
     let mut wrong: usize = 0;
@@ -217,7 +217,7 @@ pub fn try_changes<W: Write>(rt: &HostRuntime, to: &mut W, times: usize) -> Resu
     Ok(())
 }
 
-/// Tells of all plans.
+/// Writes the results for all plans.
 pub fn tell_plans<W: Write>(rt: &HostRuntime, to: &mut W) -> Result<(), LabFault> {
     for &name in PLANS {
         compare(rt, to, name, true)?;

@@ -1,4 +1,4 @@
-//! A small system, searched as a script's is.
+//! A small system for the search.
 ghost use Rattle.std.specs.Prelude.{◌≡◌, ◌<◌, ◌^◌};
 ghost use Rattle.mcs_test_examples.specs.Rings.{turned, turned_all};
 
@@ -7,8 +7,8 @@ use mcs_lab_check::LabFault;
 use std::alloc::{AllocError, Global};
 use std::io::Write;
 
-/// Places 0 to n - 1, from each of which one goes on by one or doubles; the number of steps so far
-/// is no part of the key.
+/// A system of n states, numbered from 0, with two steps from each: to the next and to the double.
+/// The number of steps so far is no part of the key.
 #[derive(Drop)]
 pub struct Ring {
     pub n: u32,
@@ -102,11 +102,11 @@ impl System for Ring {
     ghost as_good = { λ m s k c same is. is ∙ eqb-true k c same };
 }
 
-/// How many states are enough for a ring of 1,000, and how many steps are expanded.
+/// Budgets of states and of steps; 2,000 is enough for a ring of 1,000.
 const BUDGETS: &[(usize, usize)] = &[(2000, 2000), (2000, 3), (10, 2000)];
 
-/// Tells how much of the ring is found by each budget, how far the place lies behind which is
-/// looked next, and the last.
+/// Writes how much of the ring each budget finds, the depth of the next state to expand, and of the
+/// last state.
 pub fn tell_rings<W: Write>(alloc: Global, to: &mut W) -> Result<(), LabFault> {
     for &(states, depth) in BUDGETS {
         let found = explore(alloc, &mut Ring { n: 1000 }, Budget { states, depth })?;

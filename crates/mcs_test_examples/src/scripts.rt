@@ -3,7 +3,7 @@ use mcs_sim::{ReplayRun, SimFault, Sink, Source, simulate, trace};
 use mcs_types::OutOfMemory;
 use std::alloc::Global;
 
-/// What a script gives: its trace, and the fault that ended it, if one did.
+/// The results of a script: its trace, and the fault that ended it, if any.
 #[derive(Drop)]
 pub struct Told {
     pub trace: Vec<u8>,
@@ -16,7 +16,7 @@ impl Told {
     }
 }
 
-/// What is given; a text that memory is refused to is a writer that fails.
+/// Returns the results; a failed write becomes OutOfMemory, since the writer is memory.
 fn given(trace: Vec<u8>, ended: Result<(), SimFault>) -> Result<Told, OutOfMemory> {
     match ended {
         Ok(()) => Ok(Told { trace, fault: None }),
@@ -28,7 +28,7 @@ fn given(trace: Vec<u8>, ended: Result<(), SimFault>) -> Result<Told, OutOfMemor
     }
 }
 
-/// What a script gives that is read to its end.
+/// Returns the results of a script that is read to its end.
 fn replayed(alloc: Global, script: &[u8]) -> Result<Told, OutOfMemory> {
     let mut text = Vec::new(alloc);
     let result = simulate(
@@ -39,7 +39,7 @@ fn replayed(alloc: Global, script: &[u8]) -> Result<Told, OutOfMemory> {
     given(text, result)
 }
 
-/// Feeds a script in pieces of so many bytes.
+/// Feeds a script in pieces of this many bytes.
 fn feed(alloc: Global, run: &mut ReplayRun, script: &[u8], piece: usize) -> Result<(), SimFault> {
     let mut rest = script;
     while !rest.is_empty() {
@@ -50,8 +50,8 @@ fn feed(alloc: Global, run: &mut ReplayRun, script: &[u8], piece: usize) -> Resu
     run.end(alloc)
 }
 
-/// What a script gives that is fed in pieces of so many bytes: how it ended, and the trace of the
-/// book at its end.
+/// Returns the results of a script that is fed in pieces of this many bytes: how it ended, and the
+/// trace of the book at its end.
 fn fed(
     alloc: Global,
     script: &[u8],
@@ -66,7 +66,7 @@ fn fed(
     Ok((text, result))
 }
 
-/// What it gives as a whole, asked once more where memory was refused.
+/// Returns the results of a script as a whole, retrying once after a failed allocation.
 fn replayed_again(alloc: Global, script: &[u8]) -> Result<Told, OutOfMemory> {
     match replayed(alloc, script) {
         Ok(told) => Ok(told),
@@ -74,8 +74,8 @@ fn replayed_again(alloc: Global, script: &[u8]) -> Result<Told, OutOfMemory> {
     }
 }
 
-/// Whether it gives this in pieces, asked once more where memory was refused: then the book has a
-/// beginning of it.
+/// Returns whether a script gives these results in pieces, retrying once after a failed allocation;
+/// after a fault the book's trace is a prefix.
 fn is_fed(alloc: Global, script: &[u8], piece: usize, whole: &Told) -> Result<bool, OutOfMemory> {
     let (text, ended) = match fed(alloc, script, piece) {
         Ok((text, Err(SimFault::OutOfMemory))) if !whole.trace.starts_with(&text) => {
@@ -87,8 +87,8 @@ fn is_fed(alloc: Global, script: &[u8], piece: usize, whole: &Told) -> Result<bo
     Ok(given(text, ended)?.is_same(whole))
 }
 
-/// What a script gives, and what is wrong with it, if anything is: in pieces of a byte, of seven
-/// bytes or of all it gives something else, or its trace does not give itself.
+/// Returns the results of a script, and what is wrong with them, if anything: fed in pieces of 1 or
+/// 7 bytes or as a whole it gives others, or its trace does not replay to itself.
 pub fn given_by(alloc: Global, script: &[u8]) -> Result<(Told, Option<&'static str>), OutOfMemory> {
     let whole = replayed_again(alloc, script)?;
     for piece in [1, 7, usize::MAX] {

@@ -1,12 +1,12 @@
-//! Scripts at whose end threads are stuck, each beside one like it at whose end none is, one whose
-//! messages are dropped, and of two the whole state at their ends: what is reported of each.
+//! Reports on scripts that end with stuck threads, each beside a similar one without, on one whose
+//! messages are dropped, and the whole state at the end of two.
 use mcs_lab_check::LabFault;
 use mcs_lab_inspect::{Numbers, Wanted, explain, show_state};
 use mcs_sim::Source;
 use std::fs;
 use std::io::Write;
 
-/// The scripts, and whether of the states at their ends only what is stuck is told.
+/// The scripts, and whether only stuck threads are shown at their ends.
 const SCRIPTS: &[(&str, bool)] = &[
     ("stuck/lost-context.mcs", true),
     ("stuck/context-at-hand.mcs", true),
@@ -17,7 +17,7 @@ const SCRIPTS: &[(&str, bool)] = &[
     ("kernel/addresses.mcs", false),
 ];
 
-/// What is said of whether threads are stuck, by both commands.
+/// Returns the word for whether both commands agree about stuck threads.
 fn word_of(is_free: bool, seems_free: bool) -> &'static str {
     match (is_free, seems_free) {
         (true, true) => "none is stuck",
@@ -26,8 +26,8 @@ fn word_of(is_free: bool, seems_free: bool) -> &'static str {
     }
 }
 
-/// Tells why steps of a script did nothing and what is stuck at its end, and then that once more,
-/// behind the state at its end where that is told.
+/// Writes why steps of a script did nothing and what is stuck at its end, and then the state or the
+/// stuck threads at its end.
 fn tell_script<W: Write + Drop>(
     rt: &HostRuntime,
     to: &mut W,
@@ -51,7 +51,7 @@ fn tell_script<W: Write + Drop>(
     Ok(())
 }
 
-/// Tells what is reported of all of them.
+/// Writes the results for all scripts.
 pub fn tell_stuck<W: Write + Drop>(rt: &HostRuntime, to: &mut W) -> Result<(), LabFault> {
     for &(path, stuck) in SCRIPTS {
         tell_script(rt, to, path, stuck)?;

@@ -1,4 +1,4 @@
-//! Runs that are drawn: whether each replays, and what one shows.
+//! Draws runs: whether each replays, and what one shows.
 use crate::orders::{SCRIPTS, count_steps, holds, is_whole};
 use mcs_explore_questions::ExploreFault;
 use mcs_explore_run::{Chances, Drawn, draw_run, tell_runs};
@@ -11,20 +11,20 @@ use std::io::Write;
 /// How many runs are drawn of each script.
 const SEEDS: u64 = 8;
 
-/// How many turns each makes at most.
+/// How many turns each run makes at most.
 const TURNS: u64 = 100;
 
-/// The script of which a run is written.
+/// The script of which a run is written out.
 const WRITTEN: &str = "programs/restarted.mcs";
 
-/// The scripts of which many runs are reported on, and how many.
+/// The scripts for which many runs are reported, and how many.
 const TOLD: &[&str] = &["explore/lost-signal.mcs", "explore/mutex.mcs"];
 
 const RUNS: usize = 200;
 
-/// The runs that were drawn: how many, how many turns they made, in how many no turn is possible
-/// at the end, of how many the kernel accepts just these turns, and in how many each answer is the
-/// one that is after its step.
+/// The runs that were drawn: how many there are, how many turns they have, in how many no turn is
+/// possible at the end, of how many the kernel accepts exactly these turns, and in how many each
+/// answer is the one after its step.
 #[derive(Drop)]
 struct Walks {
     count: u64,
@@ -44,7 +44,7 @@ fn drawn(rt: &HostRuntime, path: &str, seed: u64) -> Result<Drawn, ExploreFault>
     Ok(run)
 }
 
-/// Reports on many runs of the script of a file, and then whether something fails.
+/// Reports many runs of the script of a file, and then whether something fails.
 fn tell_many<W: Write>(rt: &HostRuntime, to: &mut W, path: &str) -> Result<(), ExploreFault> {
     let Ok(file) = fs::open(rt, path) else {
         return Err(ExploreFault::Lab(LabFault::Read));
@@ -75,7 +75,7 @@ impl Walks {
     }
 }
 
-/// Draws runs of all scripts of users, and says how they replay; then writes one, and reports on
+/// Draws runs of all scripts of users, and writes how they replay; then writes one run, and reports
 /// many of two scripts.
 pub fn draw_walks<W: Write>(rt: &HostRuntime, to: &mut W) -> Result<(), ExploreFault> {
     let mut walks = Walks {

@@ -1,4 +1,4 @@
-//! Tests of tables, kernels, machines and whole scripts that cross crates, and of what no clause
+//! Tests that cross crates, of tables, kernels, machines and whole scripts, and of what no clause
 //! says.
 #![tactic(auto)]
 

@@ -27,7 +27,7 @@ front-is less r z long fits found f lanes all =
     ∙ alike (λ d. not (stops d)) (λ d. leb d 9) less
     (Each1-weaker (Fits w8) (λ d. not (stops d) ≡ leb d 9) (λ d h. agree_below_at (λ e. not (stops e)) (λ e. leb e 9) 256 d all h.fits) less fits)
 
--- what is read of so many zeros and bytes after them
+-- what is read of this many zeros and bytes after them
 pub moved : (bs : List ℕ) (c : ℕ) → length bs ≡ 16 → c ≤ 16 → chunk 0 16 (take (32 - c) (drop c (replicate 16 0 ++ bs))) ≡ replicate (16 - c) 0 ++ take c bs
 moved bs c long few =
     let zeros : List ℕ = replicate 16 0 in

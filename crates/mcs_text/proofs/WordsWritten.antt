@@ -145,7 +145,7 @@ name-written letter (b ∷ ds) n h = go (eqb b letter) refl (is_serial ds) refl 
     go true e false f k = absurd (cc)
     go false e y f k = absurd (cc)
 
--- a name of one of so many objects
+-- a name of one of this many objects
 pub name-made : (letter count : ℕ) (ws : List (List ℕ)) (r : Option ℕ × List (List ℕ)) (n : ℕ) → name_at letter ws ≡ Ok r → made count r.0 ≡ Ok n → ws ≡ (letter ∷ decimal n) ∷ r.1
 name-made letter count ws r n h b =
     let t = taken-name letter ws r h in

@@ -11,20 +11,20 @@ use Rattle.mcs_text.specs.declared.words.Spelled.TheVariants as s
 abbrev pub first_set : ℕ → ℕ
 first_set mask = if mask == 0 then 16 else trailing_zeros w64 mask
 
--- a text begins with so many digits, and they write this number
+-- a text begins with this many digits, and they write this number
 pub record Begins (text : List ℕ) (count n : ℕ) : Type 0 where
   pub within : count ≤ length text
   pub digits : all_digits (take count text) ≡ true
   pub writes : value (take count text) ≡ n
 
--- the first word of a text is a number of so many digits, of which the first is not 0
+-- the first word of a text is a number of this many digits, of which the first is not 0
 pub record IsFirst (text : List ℕ) (count n : ℕ) : Type 0 where
   pub begins : Begins text count n
   pub some : count ≢ 0
   pub unpadded : slice_index text 0 ≢ 48
   pub end : count < length text → slice_index text count ≡ 32
 
--- the words after a first word of so many bytes
+-- the words after a first word of this many bytes
 abbrev pub words_behind : ℕ → List ℕ → List (List ℕ)
 words_behind count text = if nat_lt count (length text) then words_of (drop (count + 1) text) else []
 

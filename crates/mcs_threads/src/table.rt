@@ -11,8 +11,8 @@ use mcs_types::{Cap, Kind, Mail, Mode, OBJECTS, ObjId, OutOfMemory, Prio, copy_r
 use std::alloc::Global;
 use std::marker::Model;
 
-/// The threads that were made, at most 256, whose serials count from 1 (own): what is kept of each,
-/// and its mail. All memory is taken when the table is made.
+/// The threads that were made, at most 256, with serials from 1 (own): the row and the mail of
+/// each. All memory is allocated when the table is made.
 pub struct Threads {
     rows: Vec<Option<ThreadRow>>,
     mails: Vec<Option<Mail>>,
@@ -30,7 +30,7 @@ impl Model for Threads {
         × (256 ≤ vec_capacity t.rows) × (256 ≤ vec_capacity t.mails) };
 }
 
-// By hand, so that it is a function of its own: a derived drop would be proved anew wherever it is
+// Written by hand as a separate function: a derived drop would be proved again wherever it is
 // dropped.
 impl Drop for Threads {
     fn drop(self) {
@@ -38,7 +38,7 @@ impl Drop for Threads {
     }
 }
 
-/// A mail like this one.
+/// Returns a copy of a mail.
 fn copied_mail(alloc: Global, mail: &Option<Mail>) -> Result<Option<Mail>, OutOfMemory>
     ensures { IfOk result (λ m. m ≡ mail.now) }
 {
@@ -52,7 +52,7 @@ fn copied_mail(alloc: Global, mail: &Option<Mail>) -> Result<Option<Mail>, OutOf
     })
 }
 
-/// Clones mails, at most 256, with the room for so many, in the memory of spare ones.
+/// Clones mails, at most 256, with this capacity, in the memory of spare ones.
 fn copied_mails(
     alloc: Global,
     spare: Vec<Option<Mail>>,
@@ -90,7 +90,7 @@ impl Threads {
         (rows, mails)
     }
 
-    /// Clones the table in the memory of a spare one. OutOfMemory where memory is refused.
+    /// Clones the table in the memory of a spare one. `OutOfMemory` if an allocation fails.
     pub fn copy(&self, alloc: Global, spare: Option<Threads>) -> Result<Threads, OutOfMemory>
         ensures { IfOk result (λ t. t ≡ self.now) }
     {
@@ -104,7 +104,7 @@ impl Threads {
         })
     }
 
-    /// How many threads were made, 256 at most; one that was closed counts still (own).
+    /// Returns how many threads were made, at most 256; closed ones still count (own).
     pub fn made(&self) -> u16
         ensures count { result ≡ made self.now }
         ensures few { result ≤ 256 }
@@ -112,16 +112,15 @@ impl Threads {
         self.rows.len() as u16
     }
 
-    /// Proves that each thread that is there has a serial from 1 to 256 (own).
+    /// Proves that each existing thread has a serial from 1 to 256 (own).
     pub fn are_few(&self)
         ensures { (t : ObjId) → IsSome (row_of self.now t) → IsThread t }
     {
         let _ = &self.rows;
     }
 
-    /// Makes a thread, where fewer than 256 were made, and gives its id: its serial is the next.
-    /// Its priority is 0, it is inactive, and no mail has reached it (manual: Threads and
-    /// Execution).
+    /// Makes a thread, and returns its id with the next serial; fewer than 256 must have been made.
+    /// Its priority is 0, it is inactive, and has no mail (manual: Threads and Execution).
     pub fn add(&mut self, maximum: Prio, root: Cap) -> ObjId
         requires { made self.old < 256 }
         ensures id { result ≡ next_thread self.old }
@@ -138,22 +137,22 @@ impl Threads {
         id
     }
 
-    /// What is kept of a thread; None for what is no thread, was never made or was closed (own).
+    /// Returns the row of a thread; None if it does not exist (own).
     pub fn get(&self, id: ObjId) -> Option<&ThreadRow>
         ensures { option_copied result ≡ row_of self.now id }
     {
         kept_at(Kind::Thread, &self.rows, id)
     }
 
-    /// What last reached a thread; None where nothing did, and for what is no thread, was never
-    /// made or was closed (manual: Message Passing).
+    /// Returns what last reached a thread; None if nothing did, or if it does not exist (manual:
+    /// Message Passing).
     pub fn mail(&self, id: ObjId) -> Option<&Mail>
         ensures { option_copied result ≡ mail_of self.now id }
     {
         kept_at(Kind::Thread, &self.mails, id)
     }
 
-    /// Keeps this row, or none, for a thread that is there.
+    /// Sets or clears the row of an existing thread.
     fn put(&mut self, id: ObjId, row: Option<ThreadRow>)
         requires { IsSome (row_of self.old id) }
         ensures rows { SetsRow self.old self.new id row }
@@ -163,7 +162,7 @@ impl Threads {
         keep(Kind::Thread, &mut self.rows, id, row);
     }
 
-    /// Keeps this mail, or none, for a thread that is there.
+    /// Sets or clears the mail of an existing thread.
     fn put_mail(&mut self, id: ObjId, mail: Option<Mail>)
         requires { IsSome (row_of self.old id) }
         ensures mails { SetsMail self.old self.new id mail }
@@ -172,8 +171,8 @@ impl Threads {
         keep(Kind::Thread, &mut self.mails, id, mail);
     }
 
-    /// Sets the mode of a thread; None for what is no thread, was never made or was closed: then
-    /// nothing changes (manual: Threads and Execution).
+    /// Sets the mode of a thread. Returns None, and changes nothing, if it does not exist (manual:
+    /// Threads and Execution).
     pub fn set_mode(&mut self, id: ObjId, mode: Mode) -> Option<()>
         ensures found { IsSome result ↔ IsSome (row_of self.old id) }
         ensures changed { ChangesRow (λ r. record r { mode = mode }) self.old self.new id }
@@ -185,7 +184,7 @@ impl Threads {
         Some(())
     }
 
-    /// Sets the priority of a thread; None like `set_mode` (manual: Threads and Execution).
+    /// Sets the priority of a thread. Returns None like `set_mode` (manual: Threads and Execution).
     pub fn set_prio(&mut self, id: ObjId, priority: Prio) -> Option<()>
         ensures found { IsSome result ↔ IsSome (row_of self.old id) }
         ensures changed { ChangesRow (λ r. record r { priority = priority }) self.old self.new id }
@@ -197,8 +196,8 @@ impl Threads {
         Some(())
     }
 
-    /// Blocks a thread on a queue or on a reply object, whatever blocked it before; None like
-    /// `set_mode` (manual: Message Passing).
+    /// Blocks a thread on a queue or on a reply object, whatever blocked it before. Returns None
+    /// like `set_mode` (manual: Message Passing).
     pub fn block(&mut self, id: ObjId, block: Block) -> Option<()>
         ensures found { IsSome result ↔ IsSome (row_of self.old id) }
         ensures changed { ChangesRow (λ r. record r { block = Some block }) self.old self.new id }
@@ -210,7 +209,7 @@ impl Threads {
         Some(())
     }
 
-    /// Unblocks a thread; None like `set_mode` (manual: Message Passing).
+    /// Unblocks a thread. Returns None like `set_mode` (manual: Message Passing).
     pub fn unblock(&mut self, id: ObjId) -> Option<()>
         ensures found { IsSome result ↔ IsSome (row_of self.old id) }
         ensures changed { ChangesRow (λ r. record r { block = None }) self.old self.new id }
@@ -222,7 +221,7 @@ impl Threads {
         Some(())
     }
 
-    /// Binds a notification to a thread; None like `set_mode` (manual: Notifications).
+    /// Binds a notification to a thread. Returns None like `set_mode` (manual: Notifications).
     pub fn tie(&mut self, id: ObjId, notification: ObjId) -> Option<()>
         ensures found { IsSome result ↔ IsSome (row_of self.old id) }
         ensures changed { ChangesRow (with_notification (Some notification)) self.old self.new id }
@@ -234,7 +233,7 @@ impl Threads {
         Some(())
     }
 
-    /// Unbinds the notification of a thread; None like `set_mode` (manual: Notifications).
+    /// Unbinds the notification of a thread. Returns None like `set_mode` (manual: Notifications).
     pub fn untie(&mut self, id: ObjId) -> Option<()>
         ensures found { IsSome result ↔ IsSome (row_of self.old id) }
         ensures changed { ChangesRow (with_notification None) self.old self.new id }
@@ -246,8 +245,7 @@ impl Threads {
         Some(())
     }
 
-    /// Gives a thread a mail in place of the one that it had; None like `set_mode` (manual: Message
-    /// Passing).
+    /// Sets the mail of a thread. Returns None like `set_mode` (manual: Message Passing).
     pub fn set_mail(&mut self, id: ObjId, mail: Mail) -> Option<()>
         ensures found { IsSome result ↔ IsSome (row_of self.old id) }
         ensures mails { IsSome (row_of self.old id) → SetsMail self.old self.new id (Some mail) }
@@ -260,8 +258,8 @@ impl Threads {
         Some(())
     }
 
-    /// Forgets a thread and its mail: its serial is never reused. None like `set_mode` (manual:
-    /// Kernel Services and Objects).
+    /// Closes a thread: removes its row and its mail. Its serial is never reused. Returns None like
+    /// `set_mode` (manual: Kernel Services and Objects).
     pub fn close(&mut self, id: ObjId) -> Option<()>
         ensures found { IsSome result ↔ IsSome (row_of self.old id) }
         ensures rows { SetsRow self.old self.new id None }

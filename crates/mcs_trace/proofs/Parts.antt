@@ -3,7 +3,7 @@ use Rattle.std.proofs.Common.{◌≡◌, ℕ, ◌+◌, ◌≤◌, List, ◌++◌
 use Rattle.std.proofs.Math.Seq.{take-add, take-append-add}
 use Rattle.std.proofs.lemmas.List.{append_assoc, length-take-le, take-take}
 
--- where the first so many bytes of a text follow others, fewer of them do
+-- where the first bytes of a text, this many, follow others, fewer of them do
 pub fewer-behind : (old mid text : List ℕ) (front at less : ℕ) → front ≤ length old → less ≤ at → take (front + at) mid ≡ take front old ++ take at text
     → take (front + less) mid ≡ take front old ++ take less text
 fewer-behind old mid text front at less within le e =

@@ -18,7 +18,7 @@ message_text label words = flat_map (λ n. then_text (decimal n)) (label ∷ wor
 abbrev pub IsMessageText : List ℕ → ℕ → List ℕ → Type 0
 IsMessageText text label words = (text ≡ message_text label words) × (length text ≤ MESSAGE)
 
--- the text of a message is in a line after so many bytes
+-- the text of a message is in a line after this many bytes
 abbrev pub StandsBehind : List ℕ → ℕ → ℕ → List ℕ → Type 0
 StandsBehind line front label words = (front ≤ length line) × (drop front line ≡ message_text label words)
 

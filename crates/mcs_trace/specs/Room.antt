@@ -2,7 +2,7 @@
 use Rattle.std.specs.Prelude.{◌≡◌, ℕ, ◌+◌, ◌≤◌, List, ◌++◌, length}
 use Rattle.mcs_trace.specs.declared.line.TheConstants.{SIZE}
 
--- there is room for so many bytes more
+-- there is room for this many bytes more
 abbrev pub HasRoom : List ℕ → ℕ → Type 0
 HasRoom line count = length line + count ≤ SIZE
 

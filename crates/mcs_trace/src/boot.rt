@@ -11,7 +11,7 @@ use mcs_text::{Key, Token};
 use mcs_types::{BootLine, Cap, Guard, ObjId, Prio};
 
 impl Line {
-    /// Appends a space, and whether a thread runs at first.
+    /// Appends a space, and whether a thread runs at boot.
     fn runs(&mut self, runs: bool)
         requires { HasRoom self.old (1 + WORD) }
         ensures { Adds self.old self.new (1 + WORD) (then_text (token_text (runs_key runs))) }

@@ -129,8 +129,9 @@ impl Line {
         self.byte(b'\n');
     }
 
-    /// Appends the words of an entry that copies a capability: where from, where to, and rights.
-    // a part of its callers, as a place of its own is: so the places need not go through memory
+    /// Appends the words of an entry that copies a capability: the source, the destination, and the
+    /// rights.
+    // inlined, as a single place is, so that places stay in registers
     #[inline(always)]
     fn copied(&mut self, from: Entrant, key: Key, places: (Place, Place), rights: Rights)
         requires { HasRoom self.old COPIED }

@@ -1,7 +1,6 @@
-//! The lines of a trace, written into a sink. Those of steps, answers and records come from what
-//! the book keeps: nothing is unpacked on the way. What writes a part of a line is inlined, so that
-//! of the choices among words that alone is left which is taken there; what grows too large the
-//! compiler leaves out of line.
+//! The lines of a trace, written into a sink. Steps, answers and records are written from their
+//! packed form, without unpacking. The writers of parts of a line are inlined, so that the compiler
+//! removes the arms that do not apply; it does not inline what grows too large.
 #![tactic(auto)]
 
 mod boot;

@@ -6,14 +6,13 @@ use crate::rooms::LINE;
 use std::marker::Model;
 use std::simd::Simd;
 
-/// How many bytes a line under construction holds at most.
+/// The size of the line buffer in bytes.
 pub const SIZE: usize = 65_536;
 
 /// How many bytes of a long text are moved at once.
 const PART: usize = 16;
 
-/// Text that is put together at the front of a buffer. Clauses see the text alone, as a list of its
-/// bytes.
+/// A buffer with a text at its front. Clauses see only the text, as a list of its bytes.
 #[derive(Drop)]
 pub struct Line {
     pub(crate) end: usize,
@@ -32,7 +31,7 @@ impl Model for Line {
 }
 
 impl Line {
-    /// No text.
+    /// Returns an empty buffer.
     pub fn new() -> Line
         ensures { result ≡ [] }
     {
@@ -42,7 +41,7 @@ impl Line {
         }
     }
 
-    /// How many bytes there are.
+    /// Returns how many bytes there are.
     #[inline(always)]
     pub fn len(&self) -> usize
         ensures { result ≡ length self.now }
@@ -57,15 +56,15 @@ impl Line {
         &self.bytes[..self.end]
     }
 
-    /// Begins anew.
+    /// Empties the buffer.
     pub fn clear(&mut self)
         ensures { self.new ≡ [] }
     {
         self.end = 0;
     }
 
-    // The end is read once, before the bytes are written: so it stays in a register from word to
-    // word.
+    // The end is read once, before the bytes are written, so that it stays in a register from word
+    // to word.
 
     /// Appends a byte.
     #[inline(always)]
@@ -78,8 +77,8 @@ impl Line {
         self.end = end + 1;
     }
 
-    /// Stores so many bytes of a text, from a position on, after the first so many of a buffer.
-    // of the buffer alone: so the end is stored once, and not with each part
+    /// Stores `N` bytes of a text, from a position on, after the front of a buffer.
+    // takes only the buffer, so that the end is stored once, not with each part
     #[inline(always)]
     fn part<const N: usize>(buffer: &mut [u8], front: usize, text: &[u8], at: usize)
         requires room { front + N ≤ length buffer.old }
@@ -90,7 +89,7 @@ impl Line {
         Simd::<u8, N>::from_slice(&text[at..]).copy_to_slice(&mut buffer[front..]);
     }
 
-    /// Appends N to twice as many bytes: the first N, and then the last N, which may overlap them.
+    /// Appends N to 2 N bytes: the first N, and then the last N, which may overlap them.
     #[inline(always)]
     fn ends<const N: usize>(&mut self, bytes: &[u8])
         requires least { N ≤ length bytes.now }
@@ -107,7 +106,7 @@ impl Line {
 
     /// Appends bytes. They are moved 4, 8 or 16 at a time; the last such part may overlap the one
     /// before.
-    // a copy of a length that is not known would go byte by byte
+    // a copy of unknown length would go byte by byte
     #[inline(always)]
     pub fn bytes(&mut self, bytes: &[u8])
         requires { HasRoom self.old (length bytes.now) }
@@ -147,7 +146,7 @@ impl Line {
         self.end = front + bytes.len();
     }
 
-    /// Appends a line that is spelled already, and its newline.
+    /// Appends a line that is spelled already, with its newline.
     #[inline(always)]
     pub fn spelled(&mut self, line: &[u8])
         requires short { length line.now < LINE }
@@ -158,8 +157,8 @@ impl Line {
         self.byte(b'\n');
     }
 
-    /// Appends a few bytes, one after the other. Where they are known they are stored together, and
-    /// no call compares their places.
+    /// Appends a few bytes, one after the other. Constant bytes are stored together, and no call
+    /// compares addresses.
     #[inline(always)]
     pub fn few_bytes(&mut self, bytes: &[u8])
         requires { HasRoom self.old (length bytes.now) }

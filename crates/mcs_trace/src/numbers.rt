@@ -10,8 +10,7 @@ use crate::rooms::{COUNT, MESSAGE, NUMBER};
 use itoa::Buffer;
 use mcs_types::MESSAGE_WORDS;
 
-// Digits have several writers: with `itoa` in their place a script takes 11 to 18 in a hundred
-// instructions more.
+// Several writers of digits: with `itoa` instead, a script takes 11% to 18% more instructions.
 /// The two digits of each number below 100.
 static PAIRS: [u8; 200] =
     *b"00010203040506070809101112131415161718192021222324252627282930313233343536373839404142434445464748495051525354555657585960616263646566676869707172737475767778798081828384858687888990919293949596979899";
@@ -34,7 +33,7 @@ fn ones(n: u64) -> u8
     PAIRS[n as usize * 2 + 1]
 }
 
-/// How many digits a number below 10,000 has.
+/// Returns how many digits a number below 10,000 has.
 #[inline(always)]
 fn digit_count(n: u64) -> usize
     ensures one { n < 10 → result ≡ 1 }
@@ -53,8 +52,8 @@ fn digit_count(n: u64) -> usize
     }
 }
 
-/// The last so many of the two digits of each of two numbers below 100 in front, and anything after
-/// them.
+/// Returns the last `count` digits of `high` and `low`, two digits each, at the front of four
+/// bytes; the rest is arbitrary.
 #[inline(always)]
 fn last_digits(high: u64, low: u64, count: usize) -> [u8; 4]
     requires high { high < 100 }
@@ -68,7 +67,7 @@ fn last_digits(high: u64, low: u64, count: usize) -> [u8; 4]
     (digits >> shift).to_le_bytes()
 }
 
-/// How many digits a number of five or more has.
+/// Returns how many digits a number of five or more has.
 #[cold]
 #[inline(never)]
 fn long_length(n: u64) -> usize
@@ -79,7 +78,7 @@ fn long_length(n: u64) -> usize
     digits.format(n).len()
 }
 
-/// How many digits a number has.
+/// Returns how many digits a number has.
 #[inline(always)]
 pub fn number_length(n: u64) -> usize
     ensures value { result ≡ length (decimal n) }
@@ -92,7 +91,7 @@ pub fn number_length(n: u64) -> usize
     }
 }
 
-/// Puts two digits of a number below 100, also where the first is 0. Returns the place after them.
+/// Writes the two digits of a number below 100, also a leading 0. Returns the position after them.
 #[inline(always)]
 fn put_pair(buffer: &mut [u8], at: usize, n: u64) -> usize
     requires small { n < 100 }
@@ -105,7 +104,7 @@ fn put_pair(buffer: &mut [u8], at: usize, n: u64) -> usize
     at + 2
 }
 
-/// Puts the four digits of a number below 10,000, also where the first are 0.
+/// Writes the four digits of a number below 10,000, also leading zeros.
 #[inline(always)]
 fn put_four(buffer: &mut [u8], at: usize, n: u64) -> usize
     requires small { n < 10000 }
@@ -117,7 +116,7 @@ fn put_four(buffer: &mut [u8], at: usize, n: u64) -> usize
     put_pair(buffer, at, n % 100)
 }
 
-/// Puts the eight digits of a number below 100,000,000, also where the first are 0.
+/// Writes the eight digits of a number below 100,000,000, also leading zeros.
 fn put_eight(buffer: &mut [u8], at: usize, n: u64) -> usize
     requires small { n < 100000000 }
     requires room { at + 8 ≤ length buffer.old }
@@ -128,8 +127,7 @@ fn put_eight(buffer: &mut [u8], at: usize, n: u64) -> usize
     put_four(buffer, at, n % 10_000)
 }
 
-/// Puts the first so many of four bytes. All four are stored, so nothing branches on how many they
-/// are.
+/// Writes the first `count` of four bytes. All four are stored, so nothing branches on the count.
 #[inline(always)]
 fn put_first_of(buffer: &mut [u8], at: usize, bytes: [u8; 4], count: usize) -> usize
     requires few { count ≤ 4 }
@@ -141,8 +139,8 @@ fn put_first_of(buffer: &mut [u8], at: usize, bytes: [u8; 4], count: usize) -> u
     at + count
 }
 
-/// Puts a number below 10,000. Its four digits are stored together, and moved to the front by those
-/// that are 0, so no branch depends on how many there are.
+/// Writes a number below 10,000. Its four digits are stored together and shifted over the leading
+/// zeros, so nothing branches on how many there are.
 #[inline(always)]
 fn put_short(buffer: &mut [u8], at: usize, n: u64) -> usize
     requires small { n < 10000 }
@@ -154,7 +152,7 @@ fn put_short(buffer: &mut [u8], at: usize, n: u64) -> usize
     put_first_of(buffer, at, last_digits(n / 100, n % 100, count), count)
 }
 
-/// Puts a number below 100,000,000.
+/// Writes a number below 100,000,000.
 #[inline(always)]
 fn put_middle(buffer: &mut [u8], at: usize, n: u64) -> usize
     requires small { n < 100000000 }
@@ -169,7 +167,7 @@ fn put_middle(buffer: &mut [u8], at: usize, n: u64) -> usize
     put_four(buffer, at, n % 10_000)
 }
 
-/// Puts a number of nine digits or more. It is never inlined into `put_long`, which thus saves no
+/// Writes a number of nine digits or more. It is never inlined into `put_long`, which thus saves no
 /// registers for it.
 #[inline(never)]
 fn put_huge(buffer: &mut [u8], at: usize, n: u64) -> usize
@@ -188,7 +186,7 @@ fn put_huge(buffer: &mut [u8], at: usize, n: u64) -> usize
     put_eight(buffer, at, n % 100_000_000)
 }
 
-/// Puts a number of 10 or more. It is a function of its own, as most numbers of a trace have one
+/// Writes a number of 10 or more. It is a separate function, since most numbers of a trace have one
 /// digit. It returns the number's end in a register, so that no caller reads it back from the line.
 #[inline(never)]
 fn put_long(buffer: &mut [u8], at: usize, n: u64) -> usize
@@ -262,7 +260,7 @@ impl Line {
         self.bytes(digits.format(n).as_bytes());
     }
 
-    /// Appends a number of messages.
+    /// Appends a count of messages.
     pub fn count(&mut self, count: u128)
         requires { HasRoom self.old COUNT }
         ensures { Adds self.old self.new COUNT (decimal count) }
@@ -274,7 +272,7 @@ impl Line {
         }
     }
 
-    /// Numbers, with a space before each.
+    /// Appends numbers, with a space before each.
     #[inline(always)]
     fn numbers(&mut self, numbers: &[u64])
         requires { HasRoom self.old ((1 + NUMBER) * length numbers.now) }
@@ -298,7 +296,7 @@ impl Line {
         self.numbers(words);
     }
 
-    /// Appends the same, copied where its text is known.
+    /// Appends the label and the words of a message, copied from `text` if that is given.
     #[inline(always)]
     pub fn message_or_text(&mut self, label: u64, words: &[u64], text: Option<&[u8]>)
         requires few { length words.now ≤ MESSAGE_WORDS }

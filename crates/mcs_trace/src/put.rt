@@ -1,4 +1,4 @@
-//! What is put into a sink: a line, from where the book keeps it.
+//! Writes lines of a book into a sink.
 ghost use Rattle.std.specs.Prelude.{◌≡◌, ◌<◌, ◌∷◌, [], ◌++◌, length};
 ghost use Rattle.mcs_text.specs.Table.{cores_text, boot_text, step_text, answer_text, record_text};
 ghost use Rattle.mcs_trace.specs.Output.{Puts};
@@ -58,7 +58,7 @@ pub fn put_spelled<W: Write>(sink: &mut Sink<W>, line: &[u8])
 
 /// Writes the line of an answer.
 #[tactic(auto, using(crate::proofs::Outputs::puts_line_then))]
-// a part of its caller, as most answers are one word, and the end of the line need not be read back
+// inlined: most answers are one word, and the end of the line need not be read back
 #[inline(always)]
 pub fn put_kept_answer<W: Write>(sink: &mut Sink<W>, answer: &KeptAnswer<'_>)
     ensures { Puts W.contents sink.old sink.new (answer_text answer.now) }
@@ -67,8 +67,8 @@ pub fn put_kept_answer<W: Write>(sink: &mut Sink<W>, answer: &KeptAnswer<'_>)
     write_kept_answer(&mut sink.line, answer.form, answer.at, answer.words);
 }
 
-/// Writes the line of a record, before which so many messages were sent. Where it has the message
-/// of this step, whose line was read, the text of that is copied.
+/// Writes the line of a record, before which `sent` messages were sent. If it has the message of
+/// this step, whose line was read, the text is copied from there.
 #[tactic(auto, using(crate::proofs::Outputs::puts_line_then))]
 #[inline(always)]
 pub fn put_read_record<W: Write>(
@@ -90,7 +90,7 @@ pub fn put_read_record<W: Write>(
     );
 }
 
-/// Writes the line of a record, of which no text was read.
+/// Writes the line of a record without a step that was read.
 #[inline(always)]
 pub fn put_kept_record<W: Write>(sink: &mut Sink<W>, sent: u128, fact: &KeptRecord<'_>)
     ensures { Puts W.contents sink.old sink.new (record_text sent fact.now) }

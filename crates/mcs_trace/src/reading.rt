@@ -1,4 +1,4 @@
-//! Lines that were read: where their messages are written again, the text is copied.
+//! Lines that were read: the text of a message is copied from there.
 ghost use Rattle.std.specs.Prelude.{◌≡◌, ◌≤◌, ◌∷◌, [], ◌++◌, IfSome, length};
 ghost use Rattle.mcs_types.specs.declared.entry.Entry.{Entry};
 ghost use Rattle.mcs_packing.specs.Entries.{sending};
@@ -13,7 +13,7 @@ use mcs_packing::{KeptStep, PackedEntry, Sending, address_at, id_of};
 use mcs_text::{Entrant, Key};
 use std::marker::Model;
 
-/// How many bytes a fixed word has.
+/// Returns how many bytes a fixed word has.
 #[inline(always)]
 fn key_length(key: Key) -> usize
     ensures value { result ≡ length (key_text key) }
@@ -22,7 +22,7 @@ fn key_length(key: Key) -> usize
     key.text().len()
 }
 
-/// How many bytes are before the message of an entry: the entering thread, the word of the entry,
+/// Returns how many bytes precede the message of an entry: the entering thread, the entry's word,
 /// and an address.
 #[inline(always)]
 fn front_length(from: Entrant, key: Key, address: u64) -> usize
@@ -46,7 +46,7 @@ fn sending_key(form: Sending) -> Key
     }
 }
 
-/// The text of a message, where it is the one whose text is in a line after so many bytes.
+/// Returns the text of a message, if it is that of a line, after `front` bytes.
 #[inline(always)]
 fn text_behind<'a>(
     line: &'a [u8],
@@ -66,7 +66,7 @@ fn text_behind<'a>(
     }
 }
 
-/// The same, of the line of a step that sends what was read.
+/// Returns the text of a message, if it is that of the line of a step that sends.
 #[inline(always)]
 fn sent_text<'a>(
     line: &'a [u8],
@@ -85,7 +85,7 @@ fn sent_text<'a>(
     text_behind(line, front, read, label, words)
 }
 
-/// The same, of the line of a step that replies with what was read, and receives.
+/// Returns the text of a message, if it is that of the line of a step that replies and receives.
 #[inline(always)]
 fn replied_text<'a>(
     line: &'a [u8],
@@ -105,7 +105,7 @@ fn replied_text<'a>(
     text_behind(line, first + 1 + last, read, label, words)
 }
 
-/// A step that is kept, and its line, of which it was read. Clauses see the step.
+/// A packed step, and the line from which it was read. Clauses see the step.
 #[derive(Drop)]
 pub struct ReadStep<'a> {
     pub step: KeptStep<'a>,
@@ -125,8 +125,8 @@ impl<'a> Model for ReadStep<'a> {
 }
 
 impl<'a> ReadStep<'a> {
-    /// The text of a message, where it is that of the step, and follows one address or two. None
-    /// says nothing.
+    /// Returns the text of a message, if it is that of the step and follows one or two addresses.
+    /// None claims nothing.
     #[inline(always)]
     pub fn message_text(&self, label: u64, words: &[u64]) -> Option<&[u8]>
         ensures { IfSome result (λ t. IsMessageText t.now label words.now) }

@@ -1,4 +1,4 @@
-//! The lines of records, and of answers, as they are kept.
+//! Writes the lines of packed records and answers.
 ghost use Rattle.std.specs.Prelude.{◌≡◌, ◌≤◌, ◌+◌, ◌∷◌, [], ◌++◌, IfSome, length};
 ghost use Rattle.mcs_trace.specs.Room.{HasRoom};
 ghost use Rattle.mcs_trace.specs.Reading.{IsMessageText};
@@ -17,7 +17,7 @@ use mcs_packing::{
 use mcs_text::Key;
 use mcs_types::{Cap, CoreId, Kind, MESSAGE_WORDS, ObjId, Rec};
 
-/// The words of a message that is at a place.
+/// Returns the words of a message at a position.
 #[inline(always)]
 pub fn words_at(words: &[u64], at: u32, len: u8) -> &[u64]
     requires { IsMessageAt words.now at len }
@@ -29,7 +29,7 @@ pub fn words_at(words: &[u64], at: u32, len: u8) -> &[u64]
 }
 
 /// Writes the line of a slot.
-// a part of its callers, which know of a capability which fields are 0
+// inlined: callers know which fields of a capability are 0
 #[inline(always)]
 fn write_slot(line: &mut Line, cnode: u32, index: u8, cap: Option<Cap>)
     requires { HasRoom line.old LINE }
@@ -258,7 +258,7 @@ fn write_word(line: &mut Line, sent: u128, packed: &Packed, words: &[u64], wide:
     }
 }
 
-/// The text of a message, where an equal one was read.
+/// Returns the text of a message, if an equal one was read.
 #[inline(always)]
 fn text_of<'a>(read: Option<&'a ReadStep<'_>>, label: u64, words: &[u64]) -> Option<&'a [u8]>
     ensures { IfSome result (λ t. IsMessageText t.now label words.now) }
@@ -269,7 +269,8 @@ fn text_of<'a>(read: Option<&'a ReadStep<'_>>, label: u64, words: &[u64]) -> Opt
     }
 }
 
-/// Writes the record of what was sent or paid. Its text is copied where it is that of this step.
+/// Writes the record of a message sent or of a reply. Its text is copied from this step's line, if
+/// it is the same.
 #[inline(never)]
 fn write_message_of(
     line: &mut Line,
@@ -321,7 +322,7 @@ fn write_message_of(
     }
 }
 
-/// Writes the record of what was sent or paid, of which no text was read.
+/// Writes the record of a message sent or of a reply, without a step that was read.
 #[inline(never)]
 fn write_message(line: &mut Line, sent: u128, packed: &Packed, words: &[u64], wide: &[Rec])
     requires of { IsOfMessage packed.now }
@@ -332,9 +333,9 @@ fn write_message(line: &mut Line, sent: u128, packed: &Packed, words: &[u64], wi
     write_message_of(line, sent, packed, words, wide, None)
 }
 
-/// Writes the record of what was sent or paid. Its text is copied where it is that of this step,
-/// which was read.
-// the parts of the step each for itself: so other records put nothing together for it
+/// Writes the record of a message sent or of a reply. Its text is copied from the line of this
+/// step, which was read, if it is the same.
+// the parts of the step as separate arguments, so that other records need not build a step
 #[inline(always)]
 fn write_read_message(
     line: &mut Line,
@@ -370,8 +371,8 @@ fn write_read_message(
     write_message_of(line, sent, packed, words, wide, Some(&read))
 }
 
-/// Writes the line of a record that is kept unpacked, before which so many messages were sent: a
-/// table, with an arm for each record.
+/// Writes the line of an unpacked record, before which `sent` messages were sent: a table, with an
+/// arm for each record.
 fn write_record(line: &mut Line, sent: u128, fact: &Rec)
     requires { HasRoom line.old LINE }
     ensures { line.new ≡ line.old ++ record_text sent fact.now }
@@ -447,8 +448,8 @@ fn write_record(line: &mut Line, sent: u128, fact: &Rec)
     }
 }
 
-/// Writes the line of a record where it is kept, before which so many messages were sent. The text
-/// of a message that was read is copied.
+/// Writes the line of a packed record, before which `sent` messages were sent. The text of a
+/// message that was read is copied.
 #[inline(always)]
 pub fn write_kept(
     line: &mut Line,
@@ -507,7 +508,7 @@ pub fn write_kept(
     }
 }
 
-/// Writes the line of an answer where it is kept.
+/// Writes the line of a packed answer.
 #[inline(always)]
 pub fn write_kept_answer(line: &mut Line, form: AnswerForm, at: u32, words: &[u64])
     requires fits { AnswerFits form at words.now }

@@ -1,4 +1,4 @@
-//! The most bytes that each word of a line takes, and a line.
+//! The maximal number of bytes of each word of a line, and of a line.
 use mcs_types::MESSAGE_WORDS;
 
 /// A number of 64 bits.
@@ -28,16 +28,16 @@ pub const CAP: usize = NAME + 2 * (1 + NUMBER);
 /// Any word: none is longer than a capability.
 pub const WORD: usize = CAP;
 
-/// The words with which the line of an entry begins.
+/// The first words of the line of an entry.
 pub const HEAD: usize = NUMBER + 1 + NAME + 1 + KEY;
 
-/// What is before the message of an entry, as far as an address.
+/// What precedes the message of an entry, up to an address.
 pub const FRONT: usize = HEAD + 1 + NUMBER;
 
 /// The words of an entry that copies a capability.
 pub const COPIED: usize = HEAD + 3 * (1 + WORD);
 
-/// The words of a line of the boot as far as the guard of a root.
+/// The words of a boot line up to the guard of a root.
 pub const ROOTED: usize = KEY + 1 + NAME + 4 * (1 + NUMBER);
 
 /// The label and the words of a message.

@@ -9,7 +9,7 @@ use mcs_types::RETRIES;
 use std::alloc::{AllocError, Global};
 use std::io::{Error, ErrorKind, Write};
 
-/// A writer, the text that is kept back for it, and how many of its calls failed.
+/// A writer with a buffer, and how many of its calls failed.
 #[derive(Drop)]
 pub struct Sink<W> {
     pub(crate) line: Box<Line>,
@@ -22,7 +22,7 @@ pub struct Sink<W> {
 #[derive(Clone, Copy, Debug, PartialEq, Eq)]
 pub struct WriteFault;
 
-/// Writes at least a byte at once; a write that is interrupted is tried again.
+/// Writes at least one byte; an interrupted write is retried.
 fn write_some<W: Write>(writer: &mut W, failed: &mut u64, bytes: &[u8]) -> Result<usize, WriteFault>
     ensures ok { IfOk result (λ n. n ≤ length bytes.now) }
     ensures some { IfOk result (λ n. 0 < n) }
@@ -50,7 +50,7 @@ fn write_some<W: Write>(writer: &mut W, failed: &mut u64, bytes: &[u8]) -> Resul
     Err(WriteFault)
 }
 
-/// Writes all of the bytes, or a beginning of them.
+/// Writes all of the bytes, or a prefix of them.
 fn write_out<W: Write>(writer: &mut W, failed: &mut u64, bytes: &[u8]) -> Result<(), WriteFault>
     ensures ok { OnOk result (Moves (W.contents writer.old) (W.contents writer.new) bytes.now []) }
     ensures err { OnErr result ((rest : List ℕ)
@@ -67,8 +67,7 @@ fn write_out<W: Write>(writer: &mut W, failed: &mut u64, bytes: &[u8]) -> Result
 }
 
 impl<W: Drop> Sink<W> {
-    /// A sink that keeps nothing back, with room for some lines, so that not each is a write of its
-    /// own.
+    /// Returns a sink with an empty buffer for some lines, so that not each is a write of its own.
     pub fn new(alloc: Global, writer: W) -> Result<Sink<W>, AllocError>
         ensures writer { IfOk result (λ s. s.writer ≡ writer) }
         ensures kept { IfOk result (λ s. kept s ≡ []) }
@@ -83,7 +82,7 @@ impl<W: Drop> Sink<W> {
         })
     }
 
-    /// Returns the writer, and drops what was kept back for it.
+    /// Returns the writer, and drops the buffer.
     pub fn into_writer(self) -> W
         ensures { result ≡ self.writer }
     {
@@ -92,7 +91,7 @@ impl<W: Drop> Sink<W> {
 }
 
 impl<W> Sink<W> {
-    /// Begins anew: what was kept back is dropped.
+    /// Empties the buffer; its bytes are dropped.
     pub fn start(&mut self)
         ensures same { (self.new.writer ≡ self.old.writer) × (self.new.failed ≡ self.old.failed) }
         ensures fresh { (kept self.new ≡ []) × (self.new.is_broken ≡ false) }
@@ -101,14 +100,14 @@ impl<W> Sink<W> {
         self.is_broken = false;
     }
 
-    /// Whether a call of the writer failed for good.
+    /// Returns whether a call of the writer failed for good.
     pub fn is_broken(&self) -> bool
         ensures { result ≡ self.now.is_broken }
     {
         self.is_broken
     }
 
-    /// How many calls of the writer failed.
+    /// Returns how many calls of the writer failed.
     pub fn failed(&self) -> u64
         ensures { result ≡ self.now.failed }
     {
@@ -120,7 +119,7 @@ impl<W: Write> Sink<W> {
     ghost use Rattle.mcs_trace.specs.Output.{Puts};
     ghost use Rattle.mcs_trace.specs.Room.{HasRoom};
 
-    /// Writes what is kept back, where no call of the writer failed for good.
+    /// Writes the buffer, unless a call of the writer failed for good.
     fn send_kept(&mut self)
         requires { self.old.is_broken ≡ false }
         ensures puts { Puts W.contents self.old self.new [] }
@@ -130,8 +129,8 @@ impl<W: Write> Sink<W> {
         self.line.clear();
     }
 
-    /// Writes what is kept back. It is out of line, so that the caller only tests whether there is
-    /// some.
+    /// Writes the buffer. It is not inlined, so that the caller only tests whether the buffer has
+    /// bytes.
     #[cold]
     #[inline(never)]
     pub fn flush(&mut self)
@@ -145,7 +144,7 @@ impl<W: Write> Sink<W> {
         self.send_kept();
     }
 
-    /// Makes room for a line: what is kept goes out where there is none.
+    /// Makes room for a line: writes the buffer if it has none.
     #[inline(always)]
     pub(crate) fn make_room(&mut self)
         ensures puts { Puts W.contents self.old self.new [] }

@@ -1,4 +1,4 @@
-//! A line alone, as text in a buffer.
+//! Spells a single line into a buffer.
 ghost use Rattle.std.specs.Prelude.{◌≡◌};
 ghost use Rattle.mcs_text.specs.Table.{step_text, answer_text, record_text};
 ghost use Rattle.mcs_text.specs.Spelling.{token_text};
@@ -37,7 +37,7 @@ pub fn spell_answer(line: &mut Line, answer: &KeptAnswer<'_>)
     write_kept_answer(line, answer.form, answer.at, answer.words);
 }
 
-/// Spells the line of a record, before which so many messages were sent.
+/// Spells the line of a record, before which `sent` messages were sent.
 pub fn spell_record(line: &mut Line, sent: u128, fact: &KeptRecord<'_>)
     ensures { line.new ≡ record_text sent fact.now }
 {

@@ -1,4 +1,4 @@
-//! The lines of steps as they are kept.
+//! Writes the lines of packed steps.
 ghost use Rattle.std.specs.Prelude.{◌≡◌, ◌≤◌, ◌+◌, ◌++◌, length};
 ghost use Rattle.mcs_trace.specs.Room.{HasRoom};
 ghost use Rattle.mcs_text.specs.Table.{step_by, step_text};
@@ -72,7 +72,7 @@ fn write_at_place(line: &mut Line, from: Entrant, form: OverPlace, place: Place)
     }
 }
 
-/// Writes the line of an entry where it is kept: a table, with an arm for each form.
+/// Writes the line of a packed entry: a table, with an arm for each form.
 #[inline(always)]
 pub fn write_kept_step(line: &mut Line, from: Entrant, entry: &PackedEntry, words: &[u64])
     requires fits { EntryFits entry.now words.now }

@@ -32,8 +32,7 @@ impl Line {
     }
 
     /// Appends a fixed word.
-    // the table of all keys does not count in what takes in this one, so that the records which
-    // most lines have are inlined
+    // without the table of all keys its callers stay small, so that common records are inlined
     #[inline]
     pub fn key(&mut self, key: Key)
         requires { HasRoom self.old KEY }
@@ -87,8 +86,9 @@ impl Line {
         self.spaced(place.depth as u64);
     }
 
-    /// Appends a word. Where the caller says the kind of word, only that kind is left of this.
-    // long words are calls: a function that grows too large is not inlined, whatever is asked for
+    /// Appends a word. For a known kind of word the compiler keeps only that arm.
+    // long words are calls: the compiler does not inline a function that grows too large, even on
+    // request
     #[inline(always)]
     pub fn word(&mut self, token: &Token)
         requires { HasRoom self.old WORD }

@@ -1,4 +1,4 @@
--- How a program goes on, line by line, and what it puts into a message.
+-- How a program continues, line by line, and what it puts into a message.
 use Rattle.std.specs.Prelude.{ℕ, zero, suc, ◌≡◌, ◌<◌, ◌≤◌, ◌%◌, ◌^◌, ◌==◌, ◌&&◌, Bool, true, false, cond, set, is_none, length, List, [], ◌∷◌, Option, Some, None, slice_get}
 use Rattle.std.specs.List.{All}
 use Rattle.std.proofs.Common.{refl, ap, sym, ◌∙◌, subst, lit<}

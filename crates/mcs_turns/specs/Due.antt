@@ -18,7 +18,7 @@ due_by _ p = p.next
 abbrev pub begun : Position
 begun = record { next = 0; waited = None; saved = nothing_saved }
 
--- after an entry that was let in with an answer
+-- after an entry that was accepted with an answer
 abbrev pub moved_past : ℕ → Answer → Position
 moved_past number answer.Waits = record { next = number + 1; waited = Some number; saved = nothing_saved }
 moved_past number _ = record { next = number + 1; waited = None; saved = nothing_saved }
@@ -41,7 +41,7 @@ abbrev pub with_picks : List Pick → List Pick → List Pick
 with_picks [] js = js
 with_picks (k ∷ ks) js = with_picks ks (with_pick k js)
 
--- the picks of the core of the number i; none where there is no such core
+-- the picks of the core of the number i; none if there is no such core
 abbrev pub picks_at : List (List Pick) → ℕ → List Pick
 picks_at ps i = unwrap_or (slice_get ps i) []
 
@@ -63,7 +63,7 @@ stale_after core user i ps [] = []
 stale_after core user i [] (s ∷ ss) = cond (i == core) [] (without_user user s) ∷ stale_after core user (i + 1) [] ss
 stale_after core user i (p ∷ ps) (s ∷ ss) = cond (i == core) [] (without_user user (with_picks p s)) ∷ stale_after core user (i + 1) ps ss
 
--- so many cores without a stale pick
+-- this many cores without a stale pick
 abbrev pub none_stale : ℕ → List (List Pick)
 none_stale zero = []
 none_stale (suc n) = [] ∷ none_stale n

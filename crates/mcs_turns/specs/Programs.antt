@@ -1,4 +1,4 @@
--- Programs: what a user does between its entries, by what the last one was told (own).
+-- Programs: what a user does between its entries, by the result of the last one (own).
 use Rattle.std.specs.Prelude.{ℕ, zero, suc, ◌+◌, ◌%◌, ◌^◌, ◌==◌, ◌&&◌, Bool, true, false, cond, nat_lt, bit_and, set, position, option_map, unwrap_or, is_none, List, [], ◌∷◌, Option, Some, None, length, slice_get}
 use Rattle.mcs_types.specs.Limits.{label_bits}
 use Rattle.mcs_types.specs.Refusals.{refusal_number}
@@ -37,18 +37,18 @@ with_saved s slot.B n = record s { b = n }
 with_saved s slot.C n = record s { c = n }
 with_saved s slot.D n = record s { d = n }
 
--- the badge that was told, or the word that was heard
+-- the badge of the result, or the word that was heard
 abbrev pub badge_told : Answer → ℕ
 badge_told (answer.Got badge message) = badge.0
 badge_told (answer.Heard word) = word
 badge_told a = 0
 
--- the label that was told
+-- the label of the result
 abbrev pub label_told : Answer → ℕ
 label_told (answer.Got badge message) = message.label
 label_told a = 0
 
--- a word of the message that was told, by its number from 0
+-- a word of the message of the result, by its number from 0
 abbrev pub word_told : Answer → ℕ → ℕ
 word_told (answer.Got badge message) i = unwrap_or (slice_get message.words i) 0
 word_told a i = 0
@@ -77,7 +77,7 @@ abbrev pub is_done : Answer → Bool
 is_done answer.Done = true
 is_done a = false
 
--- the number of the refusal that was told; 0 where none was
+-- the number of the refusal; 0 where none was
 abbrev pub refused_by : Answer → ℕ
 refused_by (answer.Refused r) = refusal_number r
 refused_by a = 0
@@ -104,19 +104,19 @@ abbrev pub gives : ℕ → Op → Bool
 gives n (op.Give m) = m == n
 gives n o = false
 
--- the words that are kept behind a line
+-- the words that are kept after a line
 abbrev pub op_saved : Answer → Saved → Op → Saved
 op_saved t s (op.Keep x from) = with_saved s x (read t s from)
 op_saved t s (op.Add x n) = with_saved s x ((saved_in s x + n) % 2 ^ 64)
 op_saved t s o = s
 
--- where a program goes on behind the line in a place
+-- where a program continues after the line in a place
 abbrev pub op_next : Answer → Saved → ℕ → Op → ℕ
 op_next t s at (op.Unless x to) = cond (holds t s x) (at + 1) to
 op_next t s at (op.Jump to) = to
 op_next t s at o = at + 1
 
--- the entry that a program gives next, from a place on, within so many lines; none where it stops
+-- the entry that a program gives next, from a place on, within this many lines; none where it stops
 abbrev pub settled : ℕ → List Op → Answer → Saved → ℕ → Settled
 settled zero ops t s at = record { number = None; saved = s }
 settled (suc n) ops t s at = elim (slice_get ops at) [
@@ -132,7 +132,7 @@ settled (suc n) ops t s at = elim (slice_get ops at) [
 abbrev pub goes_on : List Op → ℕ → Saved → Answer → Option Settled
 goes_on ops number s t = option_map (λ (i : ℕ). settled (length ops) ops t s (i + 1)) (position (gives number) ops)
 
--- the first one, before which nothing was told; none where there is no program
+-- the first one, before any result; none if there is no program
 abbrev pub starts : List Op → Option Settled
 starts [] = None
 starts (o ∷ os) = Some (settled (length (o ∷ os)) (o ∷ os) answer.Waits nothing_saved 0)

@@ -71,8 +71,8 @@ MayPrecede schedule.Serial R t u = GoesBefore R t u
 MayPrecede schedule.Equal R t u = prio_of R u ≤ prio_of R t
 MayPrecede schedule.Any R t u = Unit {0}
 
--- it is the due entry of a user who can give one, and whose thread the core may pick beside those
--- of all others who can
+-- a pick is the due entry of a user who can give one, and whose thread the core may pick beside
+-- those of all others who can
 pub record CanBePicked (users : List User) (g : Going) (core : CoreId) (k : Pick) : Type 0 where
   pub user : User
   pub place : Position
@@ -95,7 +95,7 @@ pub record ArePicks (users : List User) (g : Going) (picks : List (List Pick)) :
   pub cores : length picks ≡ g.book.boot.cores
   pub each : (core : CoreId) (ks : List Pick) → slice_get picks core.0 ≡ Some ks → ArePicksOf users g core ks
 
--- it is a stale pick of the core
+-- a pick is a stale pick of the core
 pub record IsStale (g : Going) (core : CoreId) (k : Pick) : Type 0 where
   pub picks : List Pick
   pub stale : slice_get g.stale core.0 ≡ Some picks
@@ -117,7 +117,7 @@ abbrev pub again_by : Option ℕ → ℕ → ℕ → ℕ
 again_by None entries next = next
 again_by (Some first) entries next = cond (nat_lt next entries) next first
 
--- where a program goes on from a position, which waits with nothing; where there is none, that
+-- where a program continues from a position, which waits with nothing; if there is none, that
 -- position
 abbrev pub gone_on : Option Settled → User → Position → Position
 gone_on None u p = p
@@ -127,7 +127,7 @@ gone_on (Some x) u p = record { next = unwrap_or x.number (length u.entries); wa
 abbrev pub started : User → Position
 started u = gone_on (starts u.ops) u begun
 
--- the position of a list after an entry that was let in with an answer
+-- the position of a list after an entry that was accepted with an answer
 abbrev pub listed_behind : User → ℕ → Saved → Answer → Position
 listed_behind u number s a = record (moved_past number a) { next = again_by u.again (length u.entries) (number + 1); saved = s }
 
@@ -136,8 +136,8 @@ abbrev pub waiting_behind : List Op → User → ℕ → Saved → Position
 waiting_behind [] u number s = listed_behind u number s answer.Waits
 waiting_behind (o ∷ os) u number s = record (moved_past number answer.Waits) { next = length u.entries + 1; saved = s }
 
--- the position of a user after an entry that was let in with an answer: a program goes on by what
--- it is told
+-- the position of a user after an entry that was accepted with an answer: a program continues by
+-- the result
 abbrev pub behind : User → ℕ → Saved → Answer → Position
 behind u number s answer.Waits = waiting_behind u.ops u number s
 behind u number s a = gone_on (goes_on u.ops number s a) u (listed_behind u number s a)
@@ -146,12 +146,14 @@ behind u number s a = gone_on (goes_on u.ops number s a) u (listed_behind u numb
 abbrev pub is_send_at : User → ℕ → Bool
 is_send_at u number = elim (slice_get u.entries number) [ None ↦ false | Some e ↦ is_send e ]
 
--- whether an entry that waited comes to this: that a thread goes on says so of Send alone
+-- whether this is the result of an entry that waited: that a thread continues is a result of Send
+-- alone
 abbrev pub comes_of : User → ℕ → Answer → Bool
 comes_of u number answer.Done = is_send_at u number
 comes_of u number a = true
 
--- the position of a user whom something reached: where its entry waited, its program goes on by it
+-- the position of a user whom something reached: where its entry waited, its program continues by
+-- it
 abbrev pub told : User → Answer → Position → Position
 told u a p = elim p.waited [
   | None ↦ p

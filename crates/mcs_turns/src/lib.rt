@@ -1,6 +1,6 @@
-//! The rule of a turn: which entry a user gives now, what a core may enter, and what moves with a
-//! line (own). A machine whose cores work off lists of entries goes by it, and so does a search
-//! through all orders of their turns.
+//! The rule of a turn: which entry a user gives now, what a core may enter, and how a line advances
+//! users (own). Machines that run lists of entries follow it, and so does the search through all
+//! orders.
 #![tactic(auto)]
 
 mod laws;

@@ -1,12 +1,12 @@
-//! How far a user is (own).
+//! The position of a user (own).
 ghost use Rattle.std.specs.Prelude.{◌≡◌, ◌+◌, ◌<◌, ◌^◌, nat_lt};
 ghost use Rattle.mcs_turns.specs.Due.{due_by, begun, moved_past, is_same, is_ahead};
 
 use crate::program::Saved;
 use mcs_types::{Answer, Status};
 
-/// How far a user is: the number of its next entry, from 0, that of its last one where the answer
-/// to it was Waits, and the words that its program keeps.
+/// The position of a user: the number of its next entry, from 0, the number of its last one if that
+/// waits, and the words that its program keeps.
 #[derive(Clone, Copy, Drop)]
 pub struct Position {
     pub next: usize,
@@ -17,11 +17,11 @@ pub struct Position {
 /// Which threads a core may pick, of those that may enter there (own).
 #[derive(Clone, Copy, Drop)]
 pub enum Schedule {
-    /// That of the greatest priority, and of equal ones the lowest serial.
+    /// The one of the greatest priority; among equals, of the lowest serial.
     Serial,
-    /// Any of the greatest priority: what budgets that end in turn can bring.
+    /// Any of the greatest priority: what budgets that end in turn allow.
     Equal,
-    /// Any: what budgets that end at any point can bring.
+    /// Any: what budgets that end at any point allow.
     Any,
 }
 
@@ -34,7 +34,7 @@ pub struct Pick {
 }
 
 impl Position {
-    /// Before the first entry.
+    /// Returns the position before the first entry.
     pub fn start() -> Position
         ensures { result ≡ begun }
     {
@@ -45,8 +45,8 @@ impl Position {
         }
     }
 
-    /// The number of the entry that the user gives now, by the status of its thread: the last one
-    /// again where the thread waited and was restarted, and else the next.
+    /// Returns the number of the entry that the user gives now, by the status of its thread: the
+    /// last one again if it waited and was restarted, and else the next.
     pub fn due(&self, status: Option<Status>) -> usize
         ensures { result ≡ due_by status self.now }
     {
@@ -56,14 +56,14 @@ impl Position {
         }
     }
 
-    /// Whether one of so many entries is due.
+    /// Returns whether one of `entries` entries is due.
     pub fn is_left(&self, status: Option<Status>, entries: usize) -> bool
         ensures { result ≡ nat_lt (due_by status self.now) entries }
     {
         self.due(status) < entries
     }
 
-    /// Behind the entry of this number, which was let in with this answer.
+    /// Returns the position after entry `number`, which was accepted with this answer.
     pub fn past(number: usize, answer: &Answer) -> Position
         requires room { number + 1 < 2 ^ 64 }
         ensures { result ≡ moved_past number answer.now }
@@ -85,14 +85,15 @@ impl Position {
 }
 
 impl Pick {
-    /// Whether both are the same entry of the same user.
+    /// Returns whether both are the same entry of the same user.
     pub fn is_same(self, other: Pick) -> bool
         ensures { result ≡ is_same self other }
     {
         self.user == other.user && self.number == other.number
     }
 
-    /// Whether its user has the lower number, or its entry has it and the user is the same.
+    /// Returns whether its user has the lower number, or the user is the same and its entry has the
+    /// lower number.
     pub fn is_ahead(self, other: Pick) -> bool
         ensures { result ≡ is_ahead self other }
     {

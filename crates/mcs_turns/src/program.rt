@@ -1,4 +1,4 @@
-//! What a user does between its entries: a program goes on by what its last entry was told (own).
+//! What a user does between its entries: a program continues with the result of the last one (own).
 ghost use Rattle.std.specs.Prelude.{◌≡◌, ◌<◌, ◌+◌, ◌^◌, length, position, slice_get, IfOk};
 ghost use Rattle.mcs_types.specs.Limits.{label_bits};
 ghost use Rattle.mcs_turns.specs.Programs.{filled, filled_label, filled_message, filled_words, gives, goes_on, holds, nothing_saved, op_given, op_next, op_saved, read, saved_in, settled, starts, with_saved, label_by, words_by};
@@ -25,8 +25,7 @@ pub struct Saved {
     pub d: u64,
 }
 
-/// A number: one that is written, one of what was told last (0 where it has none), or a word that
-/// is kept.
+/// A number: a constant, a part of the last result (0 if it has none), or a kept word.
 #[derive(Clone, Copy, Drop)]
 pub enum Source {
     Number(u64),
@@ -36,7 +35,7 @@ pub enum Source {
     Saved(Slot),
 }
 
-/// What may hold where something was told.
+/// A test of the last result.
 #[derive(Clone, Copy, Drop)]
 pub enum Test {
     Got,
@@ -50,23 +49,23 @@ pub enum Test {
     Has(Source, Source),
 }
 
-/// A line of a program. The way through the lines ends at one that gives an entry; the program goes
-/// on behind it once that entry was told something.
+/// A line of a program. Execution stops at a line that gives an entry, and continues after it with
+/// the entry's result.
 #[derive(Clone, Copy, Drop)]
 pub enum Op {
-    /// Gives the entry of this number.
+    /// Gives the entry with this number.
     Give(usize),
-    /// Goes on at this line where the test does not hold, and else at the next.
+    /// Jumps to this line if the test fails.
     Unless(Test, usize),
-    /// Goes on at this line.
+    /// Jumps to this line.
     Jump(usize),
-    /// Keeps a word.
+    /// Sets a kept word.
     Keep(Slot, Source),
-    /// Adds a number to a word that is kept, modulo 2^64.
+    /// Adds a number to a kept word, modulo 2^64.
     Add(Slot, u64),
 }
 
-/// A part of an entry's message that is a word that is kept: its label, or a word of it.
+/// A part of an entry's message that is filled from a kept word: its label, or one of its words.
 #[derive(Clone, Copy, Drop)]
 pub struct Fill {
     pub number: usize,
@@ -74,7 +73,7 @@ pub struct Fill {
     pub from: Slot,
 }
 
-/// Which entry a program gives next, if any, and the words that are kept then.
+/// Which entry a program gives next, if any, and the words kept then.
 #[derive(Clone, Copy, Drop)]
 pub struct Settled {
     pub number: Option<usize>,
@@ -82,7 +81,7 @@ pub struct Settled {
 }
 
 impl Saved {
-    /// No word is kept.
+    /// Returns words that are all 0.
     pub fn none() -> Saved
         ensures { result ≡ nothing_saved }
     {
@@ -94,7 +93,7 @@ impl Saved {
         }
     }
 
-    /// A word that is kept.
+    /// Returns a kept word.
     pub fn at(self, slot: Slot) -> u64
         ensures { result ≡ saved_in self slot }
     {
@@ -106,7 +105,7 @@ impl Saved {
         }
     }
 
-    /// The words, with another one in a slot.
+    /// Returns the words with another one in a slot.
     fn with(self, slot: Slot, word: u64) -> Saved
         ensures { result ≡ with_saved self slot word }
     {
@@ -119,7 +118,7 @@ impl Saved {
     }
 }
 
-/// The number for which something stands.
+/// Returns the value of a source.
 fn read(told: &Told<'_>, saved: Saved, source: Source) -> u64
     ensures { result ≡ read told.now saved source }
 {
@@ -132,7 +131,7 @@ fn read(told: &Told<'_>, saved: Saved, source: Source) -> u64
     }
 }
 
-/// Whether a test holds.
+/// Returns whether a test holds.
 fn holds(told: &Told<'_>, saved: Saved, test: Test) -> bool
     ensures { result ≡ holds told.now saved test }
 {
@@ -153,7 +152,7 @@ fn holds(told: &Told<'_>, saved: Saved, test: Test) -> bool
 }
 
 impl Op {
-    /// The entry that a line gives.
+    /// Returns the entry that a line gives.
     fn given(self) -> Option<usize>
         ensures { result ≡ op_given self }
     {
@@ -163,7 +162,7 @@ impl Op {
         }
     }
 
-    /// Whether it is the line that gives an entry.
+    /// Returns whether the line gives this entry.
     fn gives(self, number: usize) -> bool
         ensures { result ≡ gives number self }
     {
@@ -173,7 +172,7 @@ impl Op {
         }
     }
 
-    /// The words that are kept behind a line.
+    /// Returns the kept words after a line.
     fn saved(self, told: &Told<'_>, saved: Saved) -> Saved
         ensures { result ≡ op_saved told.now saved self }
     {
@@ -184,7 +183,7 @@ impl Op {
         }
     }
 
-    /// Where a program goes on behind the line in a place.
+    /// Returns where a program continues after the line at an index.
     fn next(self, told: &Told<'_>, saved: Saved, at: usize) -> usize
         requires { at + 1 < 2 ^ 64 }
         ensures { result ≡ op_next told.now saved at self }
@@ -204,7 +203,7 @@ fn op_at(ops: &[Op], place: usize) -> Option<Op>
     ops.get(place).copied()
 }
 
-/// The entry that a program gives next, from a place on; none where it stops.
+/// Returns the entry that a program gives next, from an index on; none if it stops.
 fn settle(ops: &[Op], told: &Told<'_>, saved: Saved, at: usize) -> Settled
     ensures { result ≡ settled (length ops.now) ops.now told.now saved at }
 {
@@ -233,15 +232,15 @@ fn settle(ops: &[Op], told: &Told<'_>, saved: Saved, at: usize) -> Settled
     }
 }
 
-/// The place of the line that gives an entry.
+/// Returns the index of the line that gives an entry.
 fn place_of(ops: &[Op], number: usize) -> Option<usize>
     ensures { result ≡ position (gives number) ops.now }
 {
     ops.iter().position(|op| op.gives(number))
 }
 
-/// The entry that a program gives next where this one was told something; None where it has no such
-/// entry.
+/// Returns the entry that a program gives next after this result of an entry; None if it has no
+/// such entry.
 pub fn goes_on(ops: &[Op], number: usize, saved: Saved, told: &Told<'_>) -> Option<Settled>
     ensures { result ≡ goes_on ops.now number saved told.now }
 {
@@ -251,7 +250,7 @@ pub fn goes_on(ops: &[Op], number: usize, saved: Saved, told: &Told<'_>) -> Opti
     }
 }
 
-/// The first entry that a program gives; None where there is no program.
+/// The first entry that a program gives; None if there is no program.
 pub fn starts(ops: &[Op]) -> Option<Settled>
     ensures { result ≡ starts ops.now }
 {
@@ -261,7 +260,7 @@ pub fn starts(ops: &[Op]) -> Option<Settled>
     Some(settle(ops, &Told::nothing(), Saved::none(), 0))
 }
 
-/// A label with what is kept, where this is of it.
+/// Returns a label, or the kept word that fills it.
 fn label_by(fill: Fill, number: usize, saved: Saved, label: u64) -> u64
     requires { label < 2 ^ label_bits }
     ensures value { result ≡ label_by fill number saved label }
@@ -274,7 +273,7 @@ fn label_by(fill: Fill, number: usize, saved: Saved, label: u64) -> u64
     }
 }
 
-/// The label of an entry's message, with what is kept.
+/// Returns the label of an entry's message, filled from kept words.
 fn filled_label(fills: &[Fill], number: usize, saved: Saved, label: u64) -> u64
     requires { label < 2 ^ label_bits }
     ensures value { result ≡ filled_label fills.now number saved label }
@@ -287,7 +286,8 @@ fn filled_label(fills: &[Fill], number: usize, saved: Saved, label: u64) -> u64
     now
 }
 
-/// Puts a word that is kept into its place, where this is of one, if there is such a place.
+/// Puts a kept word into its place in a message, if this fills a word of the entry and the place
+/// exists.
 fn put(words: &mut Vec<u64>, fill: Fill, number: usize, saved: Saved)
     ensures { words.new.items ≡ words_by fill number saved words.old.items }
 {
@@ -303,7 +303,7 @@ fn put(words: &mut Vec<u64>, fill: Fill, number: usize, saved: Saved)
     }
 }
 
-/// Puts the words that are kept into those of an entry's message.
+/// Fills the words of an entry's message that come from kept words.
 fn put_words(fills: &[Fill], number: usize, saved: Saved, words: &mut Vec<u64>)
     ensures { words.new.items ≡ filled_words fills.now number saved words.old.items }
 {
@@ -312,7 +312,7 @@ fn put_words(fills: &[Fill], number: usize, saved: Saved, words: &mut Vec<u64>)
     }
 }
 
-/// An entry's message, with what is kept. OutOfMemory where memory was refused.
+/// Returns an entry's message, filled from kept words. `OutOfMemory` if an allocation fails.
 fn filled_message(
     alloc: Global,
     fills: &[Fill],
@@ -333,7 +333,7 @@ fn filled_message(
     }
 }
 
-/// An entry of this number, with what is kept in its message. OutOfMemory where memory was refused.
+/// Returns an entry with its message filled from kept words. `OutOfMemory` if an allocation fails.
 pub fn filled(
     alloc: Global,
     fills: &[Fill],

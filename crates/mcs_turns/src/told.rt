@@ -1,5 +1,4 @@
-//! What a thread was told: the answer to its last entry, or what reached it while that waited
-//! (own).
+//! The result of an entry: its answer, or what reached its thread while it waited (own).
 ghost use Rattle.std.specs.Prelude.{◌≡◌, []};
 ghost use Rattle.mcs_types.specs.declared.entry.Answer.TheVariants as answer;
 ghost use Rattle.mcs_turns.specs.Told.{answer_of};
@@ -19,7 +18,7 @@ pub enum Form {
     Refused(Refusal),
 }
 
-/// An answer, whose message is lent. Clauses see the answer.
+/// An answer whose message is borrowed. Clauses see the answer.
 #[derive(Drop)]
 pub struct Told<'a> {
     pub form: Form,
@@ -39,7 +38,7 @@ impl<'a> Model for Told<'a> {
 }
 
 impl<'a> Told<'a> {
-    /// An answer without a message or a word.
+    /// Returns an answer without a message or a word.
     fn plain(form: Form) -> Told<'a>
         ensures { result ≡ answer_of form 0 0 [] }
     {
@@ -51,21 +50,21 @@ impl<'a> Told<'a> {
         }
     }
 
-    /// Nothing was told yet: every test is false, and every value 0.
+    /// Returns the result before the first entry: every test is false, and every value 0.
     pub fn nothing() -> Told<'a>
         ensures { result ≡ answer.Waits }
     {
         Told::plain(Form::Waits)
     }
 
-    /// That the entry is done.
+    /// Returns that the entry is done.
     pub fn done() -> Told<'a>
         ensures { result ≡ answer.Done }
     {
         Told::plain(Form::Done)
     }
 
-    /// That a word was heard.
+    /// Returns that a word was heard.
     pub fn heard(word: u64) -> Told<'a>
         ensures { result ≡ answer.Heard word }
     {
@@ -77,7 +76,7 @@ impl<'a> Told<'a> {
         }
     }
 
-    /// That a message came, of this label and these words.
+    /// Returns that a message was received, with this badge, label and words.
     pub fn got(badge: Badge, label: u64, words: &'a [u64]) -> Told<'a>
         ensures { result ≡ answer.Got badge (record { label = label; words = words.entry.now }) }
     {
@@ -89,7 +88,7 @@ impl<'a> Told<'a> {
         }
     }
 
-    /// An answer, lent.
+    /// Borrows an answer.
     pub fn of(answer: &'a Answer) -> Told<'a>
         ensures { result ≡ answer.entry.now }
     {
@@ -105,7 +104,7 @@ impl<'a> Told<'a> {
         }
     }
 
-    /// The same answer, lent once more.
+    /// Borrows the same answer once more.
     pub fn again(&self) -> Told<'a>
         ensures { result ≡ self.now }
     {
@@ -117,7 +116,7 @@ impl<'a> Told<'a> {
         }
     }
 
-    /// The badge of the message, or the word that was heard; 0 where there is neither.
+    /// Returns the badge of the message, or the word that was heard; 0 without either.
     pub fn badge(&self) -> u64
         ensures { result ≡ badge_told self.now }
     {
@@ -127,7 +126,7 @@ impl<'a> Told<'a> {
         }
     }
 
-    /// The label of the message; 0 where there is none.
+    /// The label of the message; 0 if there is none.
     pub fn label(&self) -> u64
         ensures { result ≡ label_told self.now }
     {
@@ -137,7 +136,7 @@ impl<'a> Told<'a> {
         }
     }
 
-    /// A word of the message, by its number from 0; 0 where it has no such word.
+    /// A word of the message, by its number from 0; 0 if it has no such word.
     pub fn word(&self, number: u8) -> u64
         ensures { result ≡ word_told self.now number }
     {
@@ -150,7 +149,7 @@ impl<'a> Told<'a> {
         }
     }
 
-    /// The number of the refusal; 0 where nothing was refused.
+    /// The number of the refusal; 0 if nothing was refused.
     pub fn refused_by(&self) -> u8
         ensures { result ≡ refused_by self.now }
     {
@@ -160,28 +159,28 @@ impl<'a> Told<'a> {
         }
     }
 
-    /// Whether a message came.
+    /// Returns whether a message came.
     pub fn is_got(&self) -> bool
         ensures { result ≡ is_got self.now }
     {
         matches!(self.form, Form::Got)
     }
 
-    /// Whether a word was heard.
+    /// Returns whether a word was heard.
     pub fn is_heard(&self) -> bool
         ensures { result ≡ is_heard self.now }
     {
         matches!(self.form, Form::Heard)
     }
 
-    /// Whether nothing was there.
+    /// Returns whether there was nothing to receive.
     pub fn is_empty(&self) -> bool
         ensures { result ≡ is_empty self.now }
     {
         matches!(self.form, Form::Empty)
     }
 
-    /// Whether the entry is done.
+    /// Returns whether the entry is done.
     pub fn is_done(&self) -> bool
         ensures { result ≡ is_done self.now }
     {

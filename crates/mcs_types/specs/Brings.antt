@@ -37,7 +37,7 @@ abbrev pub answer_words : Answer → List ℕ
 answer_words (Got badge message) = message.words
 answer_words _ = []
 
--- it brings no message
+-- an answer brings no message
 abbrev pub IsPlain : Answer → Type 0
 IsPlain (Got badge message) = ⊥
 IsPlain _ = Unit {0}

@@ -9,7 +9,7 @@ use Rattle.mcs_types.specs.Views.{Content}
 abbrev pub IsWithinLimits : ℕ → List ℕ → Type 0
 IsWithinLimits label words = (label < 2 ^ label_bits) × (length words ≤ word_limit)
 
--- so few words that they take no memory
+-- a message has so few words that they take no memory
 abbrev pub IsShort : List ℕ → Type 0
 IsShort words = length words ≤ inline_limit
 

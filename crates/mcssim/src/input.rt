@@ -2,7 +2,7 @@
 use std::fs::{self, File};
 use std::io;
 
-/// The system's number of the error that a file is a folder.
+/// The system's error number for a file that is a folder.
 const IS_A_FOLDER: i32 = 21;
 
 /// Opens a file to read it. The error is the system's; a folder is one.

@@ -1,6 +1,6 @@
-//! The program: `mcssim replay` takes the steps of a script and writes its trace to standard
-//! output, and `mcssim run` runs a script of users on a host thread for each core. The script is
-//! that of a file, or of standard input.
+//! The program: `mcssim replay` replays a script of steps and writes its trace to standard output,
+//! and `mcssim run` runs a script of users on a host thread for each core. The script comes from a
+//! file or from standard input.
 #![tactic(auto)]
 
 mod input;
@@ -31,7 +31,7 @@ fn carry_out<R: AllocGlobal + Print + Threads + Wait + Sync, I: Read + Drop>(
     }
 }
 
-/// Tells the fault of a run, where there is one, and returns the exit status.
+/// Reports the fault of a run, if there is one, and returns the exit status.
 fn ended(rt: &HostRuntime, asked: &Options<'_>, done: Result<(), SimFault>) -> ExitCode {
     let Err(fault) = done else {
         return ExitCode::SUCCESS;

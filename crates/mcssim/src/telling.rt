@@ -1,15 +1,15 @@
-//! How a fault is told.
+//! Reports faults.
 use clap::Error;
 use clap::error::ErrorKind;
 use mcs_sim::{SimFault, answer_status};
 use std::process::ExitCode;
 use std::{fmt, io};
 
-/// What it means that a run failed.
+/// What it means if a run failed.
 const FAILED: &str =
     "a host thread did not start, or the book did not agree with what the cores got";
 
-/// A fault, and behind it what it means.
+/// A fault, followed by its explanation.
 #[derive(Drop)]
 struct Explained(SimFault);
 
@@ -28,19 +28,19 @@ impl fmt::Display for Explained {
     }
 }
 
-/// Tells a fault in its fixed line, and returns the exit status.
+/// Reports a fault in its fixed line, and returns the exit status.
 pub fn tell(rt: &HostRuntime, fault: SimFault) -> ExitCode {
     let _ = rt.eprintln(fault);
     ExitCode::from(fault.status())
 }
 
-/// Tells what a fault means, in a line behind the fixed one.
+/// Explains a fault in a line after the fixed one.
 pub fn explain(rt: &HostRuntime, fault: SimFault) {
     let _ = rt.eprintln(Explained(fault));
 }
 
-/// Tells that a file could not be opened, in the system's words, and returns the exit status, which
-/// is that of a read fault. Where memory was refused, tells that.
+/// Reports that a file could not be opened, in the system's words, and returns the exit status of a
+/// read fault; a failed allocation is reported as such.
 pub fn tell_unopened(rt: &HostRuntime, path: &str, error: &io::Error) -> ExitCode {
     if error.kind() == io::ErrorKind::OutOfMemory {
         return tell(rt, SimFault::OutOfMemory);
@@ -50,7 +50,7 @@ pub fn tell_unopened(rt: &HostRuntime, path: &str, error: &io::Error) -> ExitCod
     ExitCode::from(SimFault::Read.status())
 }
 
-/// Tells what `clap` returns in place of options, and returns the exit status.
+/// Prints what `clap` returns in place of options, and returns the exit status.
 pub fn tell_answer(rt: &HostRuntime, answer: &Error) -> ExitCode {
     if answer.kind() == ErrorKind::OutOfMemory {
         return tell(rt, SimFault::OutOfMemory);

@@ -77,7 +77,7 @@ slice_get-cut s (j ∷ hs) rs n (suc i) h e at =
     slice_get-cut j.end hs (drop (j.end - s) rs) n i h e.1 at
     ∙ ap (λ rs. Some (record { step = h.step; answer = h.answer; records = take (h.end - start_at j.end hs i) rs })) (drop-drop (start_at j.end hs i - j.end) (j.end - s) rs ∙ ap (λ k. drop k rs) far)
 
--- where there is no entry there is no line
+-- if there is no entry there is no line
 pub slice_get-cut_none : (s : ℕ) (hs : List Entered) (rs : List Rec) (i : ℕ) → slice_get hs i ≡ None → slice_get (cut s hs rs) i ≡ None
 slice_get-cut_none s [] rs i at = refl
 slice_get-cut_none s (j ∷ hs) rs zero at = absurd cc

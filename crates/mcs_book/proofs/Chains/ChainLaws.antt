@@ -199,7 +199,7 @@ module _ (s r : ObjId) (e : Rec) (c : Bool) (ending : (o : ObjId) → ends o e �
       go true e = let no : true ≡ false = sym (same-self a) ∙ ap (λ (x : ObjId). same a x) (sym (same-equal b a e)) ∙ h in absurd cc
       go false e = refl
 
-  -- who owes nobody has no debt that lasts
+  -- what owes no thread has no debt that lasts
   owed-ended : (R : Log) (later : List Rec) → owed_by R r ≡ None → Ended later R
   owed-ended [] later h = tt
   owed-ended (rec.Owes o x b ∷ R) later h = go (same r o) refl h (owed-ended R (rec.Owes o x b ∷ later))
@@ -228,7 +228,7 @@ module _ (s r : ObjId) (e : Rec) (c : Bool) (ending : (o : ObjId) → ends o e �
   step above [] = []
   step above (o ∷ os) = cond (same o r) (cond above [] os) (o ∷ step true os)
 
-  -- a debt was made where its reply object owed nobody
+  -- a debt was made where its reply object owed no thread
   free-before : (R : Log) (rec : Rec) (o : ObjId) → Sound (rec ∷ R) → owes_with s rec ≡ Some o → owed_by R o ≡ None
   free-before R (rec.Owes q x b) o sound h = go (is_just b s) h
     where
@@ -338,7 +338,7 @@ held-context (rec.Holds c (Some t) ∷ R) s x sound h = go (same s c) refl h (he
     go false e k later = later k
 held-context (_ ∷ R) s x sound h = held-context R s x sound.1 h
 
--- nobody holds a context that is closed
+-- no thread holds a context that is closed
 closed-unheld : (R : Log) (s : ObjId) → Sound R → was_closed R s ≡ true → holder_of R s ≡ None
 closed-unheld [] s sound h = absurd cc
 closed-unheld (rec.Closed o ∷ R) s sound h = go (same s o) refl h (closed-unheld R s sound.1)

@@ -51,12 +51,12 @@ first-is R q x sound first = (first-stands R q x first, λ u at ne. go (queued_i
     go (y ∷ ys) s h {u = u} (inl e) ne = let it : y ≡ x = cc in absurd (ne (e ∙ it))
     go (y ∷ ys) s h {u = u} (inr i) ne = let it : y ≡ x = cc in subst (λ (z : ObjId). is_ahead R z u ≡ true) it (ahead-in (is_ahead R) y ys u s.0 i)
 
--- who is owed by d, or nobody, after some debt is void
+-- who is owed by d, or no thread, after some debt is void
 still : (b : Bool) (o : Option ObjId) (x : ObjId) → (o ≡ Some x) ⊎ (o ≡ None) → (unwrap_or (given b None) o ≡ Some x) ⊎ (unwrap_or (given b None) o ≡ None)
 still true o x h = inr refl
 still false o x h = h
 
--- a reply object with which nobody is queued stays so while another is cancelled
+-- a reply object with which no thread is queued stays so while another is cancelled
 unattended-cancel : (d x : ObjId) → Outlasts x Inactive (λ R. IsUnattended R d)
 unattended-cancel d x = record { dropped = λ R m h. h; parts = λ R q h y e at with. h y e ((left-queue R x y q (Receivers e) at).1) with; voided = λ R r h. h; turns = λ R h. h }
 

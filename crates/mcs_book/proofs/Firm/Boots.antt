@@ -30,7 +30,7 @@ use Rattle.mcs_book.proofs.SoundLogs.KeptLaws.{there-next, held-there}
 use Rattle.mcs_book.proofs.Firm.Laws.{Firm, Also, firm-sound, tied-none, none-is}
 use Rattle.mcs_book.proofs.Objects.CountLaws.{next-unmade, made-there}
 
--- a firm log in which nobody is in its queue or is owed, and nothing was closed
+-- a firm log in which no thread is in its queue or is owed, and nothing was closed
 record Quiet (R : Log) : Type 0 where
   firm : Firm R
   stands : (x : ObjId) → queue_of R x ≡ None

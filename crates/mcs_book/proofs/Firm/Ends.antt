@@ -97,7 +97,7 @@ outlasts-pay F f r message R h = go (owed_by R r)
     go (Some x) = outlasts-ending F Running f R r x (rec.Paid r x message) (f.paid R r x message h)
     go None = h
 
--- a reply object that is deleted owes nobody any more
+-- a reply object that is deleted owes no thread any more
 firm-void : (r : ObjId) (R : Log) → Firm R → Firm (onto (void_deleted r R) R)
 unfolding void_deleted
 firm-void r R firm = go (owed_by R r) refl
@@ -115,7 +115,7 @@ outlasts-void F f r R h = go (owed_by R r)
     go (Some x) = outlasts-ending F Inactive f R r x (rec.Void r x Deleted) (f.voided R r x Deleted h)
     go None = h
 
--- once it is void, a reply object owes nobody
+-- once it is void, a reply object owes no thread
 pub void-free : (r : ObjId) (R : Log) → owed_by (onto (void_deleted r R) R) r ≡ None
 unfolding void_deleted
 void-free r R = go (owed_by R r) refl
@@ -127,7 +127,7 @@ void-free r R = go (owed_by R r) refl
     go (Some x) is = outlasts-ending (λ R. owed_by R r ≡ None) Inactive free R r x (rec.Void r x Deleted) (set-self r None (owed_by R r))
     go None is = is
 
--- nobody is left with o, in a firm log
+-- no thread is left with o, in a firm log
 record IsDone (k : Kind) (o : ObjId) (R : Log) : Type 0 where
   firm : Firm R
   released : IsReleased R k o
@@ -148,14 +148,14 @@ endpoint-done R o firm = record {
     threads_there : (y : ObjId) → In y xs → IsThere R kind.Thread y
     threads_there y i = in-either y (queued_in R (Senders o)) (queued_in R (Receivers o)) (IsThere R kind.Thread y) (λ j. standing-thread R y (Senders o) (firm-sound R firm) (in-line R (Senders o) y j)) (λ j. standing-thread R y (Receivers o) (firm-sound R firm) (in-line R (Receivers o) y j)) i
 
--- nobody waits on a notification or is bound to it, and contexts are homed where they were
+-- no thread waits on a notification or is bound to it, and contexts are homed where they were
 record IsUnwatched (R : Log) (o : ObjId) (R' : Log) : Type 0 where
   firm : Firm R'
   empty : IsEmptyLine R' (Waiters o)
   unbound : IsUnbound R' o
   homes : (s : ObjId) → home_of R' s ≡ home_of R s
 
--- a notification's line is emptied, nobody is bound to it, and no context is homed at it
+-- a notification's line is emptied, no thread is bound to it, and no context is homed at it
 notification-done : (R : Log) (o : ObjId) → Firm R → IsDone kind.Notification o (onto (release R o kind.Notification R) R)
 notification-done R o firm = then-next (IsDone kind.Notification o) (cancel_all xs Restart then untie (tied_to R o)) (unhome (homed_at R o)) R (ends (homed_at R o) refl _ (then-next (IsUnwatched R o) (cancel_all xs Restart) (untie (tied_to R o)) R (go (tied_to R o) refl)))
   where
@@ -200,7 +200,7 @@ notification-done R o firm = then-next (IsDone kind.Notification o) (cancel_all 
         }
     ends None is R' h = record { firm = h.firm; released = (h.empty, h.unbound, λ c k. homed_at-none R o (firm-sound R firm) is c (sym (h.homes c) ∙ k)) }
 
--- once the thread that receives with r is cancelled, nobody does
+-- once the thread that receives with r is cancelled, no thread does
 pub unattended-left : (R : Log) (r x e : ObjId) → Firm R → queue_of R x ≡ Some (Receivers e) → reply_with R x ≡ Some r → IsUnattended (onto (cancel x Inactive R) R) r
 unattended-left R r x e firm at with y d at' with' =
     let l : IsLeft x (onto (cancel x Inactive R) R) = cancelled x Inactive R (standing-thread R x (Receivers e) (firm-sound R firm) at) firm in
@@ -210,7 +210,7 @@ unattended-left R r x e firm at with y d at' with' =
     (λ y d at' with'. one_user R y x d e r (firm-sound R firm) at' with' at with) in
     never-both (queue_of (onto (cancel x Inactive R) R) y) (Receivers d) at' (ap (λ z. queue_of (onto (cancel x Inactive R) R) z) (alone y d at' with') ∙ l.idle.0)
 
--- nobody receives with a reply object any more, and it owes nobody
+-- no thread receives with a reply object any more, and it owes no thread
 reply-done : (R : Log) (o : ObjId) → Firm R → IsDone kind.Reply o (onto (release R o kind.Reply R) R)
 reply-done R o firm = then-next (IsDone kind.Reply o) (with_any (receiver_with R o) (λ x. cancel x Inactive)) (void_deleted o) R (ends (go (receiver_with R o) refl))
   where
@@ -235,7 +235,7 @@ record IsUnhomed (R : Log) (o : ObjId) (R' : Log) : Type 0 where
   homeless : home_of R' o ≡ None
   held : holder_of R' o ≡ holder_of R o
 
--- a context is homed nowhere, and nobody holds it any more
+-- a context is homed nowhere, and no thread holds it any more
 context-done : (R : Log) (o : ObjId) → Firm R → IsDone kind.Context o (onto (release R o kind.Context R) R)
 unfolding unbind
 context-done R o firm = then-next (IsDone kind.Context o) (with_any (home_of R o) (λ n. say (rec.Homed o None))) (with_any (holder_of R o) (λ t. say (rec.Holds o None))) R (ends (holder_of R o) refl _ (go (home_of R o) refl))
@@ -291,7 +291,7 @@ thread-done R o there firm = then-next (IsDone kind.Thread o) (cancel o Inactive
         }
     ends None is R' h = record { firm = h.firm; released = (h.idle, λ c k. context-none R o (firm-sound R firm) is c (sym (h.holders c) ∙ k), h.unbound) }
 
--- what the end of an object does to others keeps the log firm, and nobody is left with it
+-- what the end of an object does to others keeps the log firm, and no thread is left with it
 release-done : (R : Log) (o : ObjId) (k : Kind) → k ≢ kind.CNode → IsThere R k o → Firm R → IsDone k o (onto (release R o k R) R)
 release-done R o kind.CNode ne there firm = absurd (ne refl)
 release-done R o kind.Endpoint ne there firm = endpoint-done R o firm
@@ -323,7 +323,7 @@ last-ending o = record {
   holds = λ R s x h. record { alive = h.alive; no_cap = h.no_cap };
 }
 
--- and a context that is homed nowhere and held by nobody any more
+-- and a context that is homed nowhere and held by no thread any more
 last-unbind : (o d : ObjId) (R : Log) → IsLast o R → IsLast o (onto (unbind d R) R)
 unfolding unbind
 last-unbind o d R h = then-next (IsLast o) (with_any (home_of R d) (λ n. say (rec.Homed d None))) (with_any (holder_of R d) (λ t. say (rec.Holds d None))) R (lets (holder_of R d) _ (homes (home_of R d)))

@@ -49,7 +49,7 @@ unfolding OnPassed
 passed-map P Q (Ok x) f h = f x h
 passed-map P Q (Err why) f h = tt
 
--- a number of so many bits, and more bits after it
+-- a number of this many bits, and more bits after it
 bits-below : (bits : List Bool) (n k : ℕ) → n < 2 ^ k → fold (λ n b. 2 * n + cond b 1 0) n bits < 2 ^ (k + length bits)
 bits-below [] n k lt = let none : k ≡ k + 0 = omega arith in subst (λ (m : ℕ). n < 2 ^ m) none lt
 bits-below (b ∷ bits) n k lt =

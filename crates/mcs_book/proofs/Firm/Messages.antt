@@ -143,7 +143,7 @@ module _ (t : ObjId) where
       firm-before (with_any (Some d) free) _ R (firm-receive_message (onto (free d R) R) e (Some d) blocking (there.0, f.since.alive e there.1) (λ c is.
       let it : d ≡ c = cc in subst (λ (z : ObjId). IsThere (onto (free d R) R) kind.Reply z × IsFreeReply (onto (free d R) R) z) it ((reply.0, f.since.alive d reply.1), f.unused)) f.acting)
 
-  -- a wait on a notification to which nobody else is bound
+  -- a wait on a notification to which no other thread is bound
   pub firm-wait_on : (S : Log) (n : ObjId) (blocking : Bool) → IsThere S kind.Notification n → ((u : ObjId) → bound_of S u ≡ Some n → u ≡ t) → (R : Log) → Since S R → Acting t R → Firm (onto ((wait_on t n blocking R).records) R)
   unfolding wait_on
   firm-wait_on S n blocking there alone R since h =
@@ -186,7 +186,7 @@ module _ (t : ObjId) where
           (λ l k. subst (λ (z : Letter). is_alive R z.endpoint ≡ true) (one l k) there.1) (λ l k. subst (λ (z : Letter). IsFirstOfOne After z p) (one l k) (inr (ahead, aside)))
           ahead.0 h.there h.idle (firm-sent R cap mode message there h))
 
-  -- t acts as before once a message was handed over with its context, or where nobody receives
+  -- t acts as before once a message was handed over with its context, or where no thread receives
   pub acting-sends : (R : Log) (cap : Cap) (message : Content) (answer nobody : Answer) → IsThere R kind.Endpoint cap.obj → Acting t R
       → let act : Act = sends (letter_over t cap how.Give message) answer (answers nobody nothing) in Acting t (onto ((act R).records) R)
   unfolding sends sends_to

@@ -121,7 +121,7 @@ module _ (T : List ObjId) where
   pub few-let_go : (s : Option ObjId) → Few 1 (let_go s)
   few-let_go s = few-any 1 s _ (λ c. few-say (rec.Holds c None) (λ S. refl))
 
-  -- a context is homed nowhere and held by nobody
+  -- a context is homed nowhere and held by no thread
   pub few-unbind : (s : ObjId) → Few 2 (unbind s)
   unfolding unbind
   few-unbind s = record { at = λ S is. (few-then 1 1 _ _ (few-any 1 (home_of S s) _ (λ n. few-say (rec.Homed s None) (λ S. refl))) (few-any 1 (holder_of S s) _ (λ t. few-say (rec.Holds s None) (λ S. refl)))).at S is }
@@ -214,12 +214,12 @@ module _ (T : List ObjId) where
       go S (Some old) = none
       go S None = heard (tied_to S n) (queue_of_any S (tied_to S n)) (first_in S (Waiters n))
 
-  -- a deleted reply object owes nobody any more
+  -- a deleted reply object owes no thread any more
   few-void : (r : ObjId) → Few 3 (void_deleted r)
   unfolding void_deleted
   few-void r = record { at = λ S is. (few-any 3 (owed_by S r) _ (λ x. few-then 2 1 _ _ (few-then 1 1 _ _ (few-say (rec.Void r x Deleted) (λ S. refl)) (few-say (rec.Turns x Inactive) (λ S. refl))) (few-back (topped_by S r) x))).at S is }
 
-  -- nobody is left with an object
+  -- no thread is left with an object
   few-release : (R : Log) (o : ObjId) (k : Kind) → threads R ≡ T → Few (3 * length T + 6) (release R o k)
   few-release R o CNode is = few-within 0 (3 * length T + 6) nothing (omega arith) few-nothing
   few-release R o Endpoint is =

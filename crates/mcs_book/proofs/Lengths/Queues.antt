@@ -53,7 +53,7 @@ line-short R q =
     let le : length (filter (stands_in R q) (threads R)) ≤ length (threads R) = filter-short (stands_in R q) (threads R) in
     omega (arith, e, le)
 
--- nobody is in two queues
+-- no thread is in two queues
 apart : (o : Option Queue) (e : ObjId) → is_queue o (Senders e) ≡ true → is_queue o (Receivers e) ≡ false
 apart None e h = refl
 apart (Some (Senders a)) e h = refl

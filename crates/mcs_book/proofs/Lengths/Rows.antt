@@ -207,7 +207,7 @@ module _ (T : List ObjId) where
   few-delete at None = act-piece 0 Done nothing (omega arith) (few-nothing T)
   few-delete at (Some held) = act-piece (1 + (3 * length T + 7)) Done _ (omega arith) (few-then T 1 (3 * length T + 7) _ _ (few-say T (rec.Slot at.cnode at.index None) (λ S. refl)) (few-destroy_last T held.obj))
 
-  -- nothing is done where nobody receives
+  -- nothing is done where no thread receives
   few-alone : FewAct 2 (answers Done nothing)
   few-alone = record { at = λ S same. record { few = omega arith; threads_same = same } }
 

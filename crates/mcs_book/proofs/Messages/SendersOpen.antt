@@ -70,7 +70,7 @@ open-sent_back R s x e m h = go (next_message R == m) refl h.is_letter p.0
 pub open_of-is : (R : Log) (x : ObjId) (s : Letter) → open_of R x ≡ Some s → IsOpenOf R x s.endpoint s.number
 open_of-is R x s is = let o : (same s.sender x ≡ true) × (is_open R s.number ≡ true) = open_of-open R x s is in record { sent = s; is_letter = open_of-letter R x s is; is_open = o.1; of_sender = same-equal s.sender x o.0; on_endpoint = refl }
 
--- a record that sends nothing and moves nobody
+-- a record that sends nothing and moves no thread
 opened-still : (R : Log) (r : Rec) → letters (r ∷ R) ≡ letters R → ((y : ObjId) → queue_of (r ∷ R) y ≡ queue_of R y) → Opened R → Opened (r ∷ R)
 opened-still R r same_letters queues h = record {
   open_queued = λ x e m o. queues x ∙ h.open_queued x e m ((open-back R r x e m same_letters o).1);

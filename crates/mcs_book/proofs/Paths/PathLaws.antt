@@ -68,7 +68,7 @@ level-spells S cap bits at h = go (starts_with same_bit bits (guard_of cap)) (na
     go true false e e' k = absurd cc
     go false c e e' k = absurd cc
 
--- where lookup goes on, the slot holds a capability to a CNode; and where it ends, a path is
+-- where lookup continues, the slot holds a capability to a CNode; and where it ends, a path is
 -- complete
 pub goes-next : (S : Space) (at : Reached) (next : Cap) → goes_on S at ≡ Some next → cnode_cap (S.slot at.cnode at.index) ≡ Some next
 goes-next S at next h = go (is_none_left at.left) h

@@ -127,7 +127,7 @@ stuck-next S k next bits a refusal l on h = record {
         ]
     none (index ∷ j ∷ p) at c = h.incomplete (j ∷ p) at (complete-next S k next bits a.left l.index index j p at leads (first index (j ∷ p) at.left (complete-spells S k bits (index ∷ j ∷ p) at c)) c)
 
--- where lookup goes on from a CNode, its index has at least one bit
+-- where lookup continues from a CNode, its index has at least one bit
 pub record Narrows (S : Space) (k : Cap) : Type 0 where
   pub here : (i : ℕ) (next : Cap) → cnode_cap (S.slot k.obj i) ≡ Some next → 1 ≤ S.radix k.obj
   pub within : (c : ObjId) (i : ℕ) (next : Cap) → cnode_cap (S.slot c i) ≡ Some next → (j : ℕ) (more : Cap) → cnode_cap (S.slot next.obj j) ≡ Some more → 1 ≤ S.radix next.obj
@@ -136,7 +136,7 @@ pub record Narrows (S : Space) (k : Cap) : Type 0 where
 pub bits-narrow : (S : Space) (k : Cap) → HasBits S k → Narrows S k
 bits-narrow S k h = record { here = λ i next e. h.here; within = λ c i next e j more f. h.within c i next e }
 
--- the bits left after a level where lookup goes on are fewer
+-- the bits left after a level where lookup continues are fewer
 level-shorter : (S : Space) (k next : Cap) (bits : List Bool) (a : Reached) (steps : ℕ) → Narrows S k → Level S k bits a → cnode_cap (S.slot a.cnode a.index) ≡ Some next → length bits ≤ suc steps → length a.left ≤ steps
 level-shorter S k next bits a steps h l on le =
     let all : length bits ≡ length (guard_of k ++ (l.index ++ a.left)) = ap length l.spells in

@@ -41,7 +41,7 @@ pub record HasOpen (R : Log) (x : ObjId) : Type 0 where
   pub open_still : is_open R number ≡ true
   pub of_sender : sent.sender ≡ x
 
--- who is in a queue was made, a queued sender has an open message, and nobody waits beside; the
+-- who is in a queue was made, a queued sender has an open message, and no thread waits beside; the
 -- entering thread t was made
 pub record Beside (t : ObjId) (R : Log) : Type 0 where
   pub ends : Each EndsOpen R
@@ -61,7 +61,7 @@ settles-aside (rec.Took k p) m h = absurd cc
 settles-aside (rec.Dropped k) m h = absurd cc
 settles-aside _ m h = refl
 
--- a record aside moves nobody
+-- a record aside moves no thread
 pub queue-aside : (R : Log) (r : Rec) (x : ObjId) → is_aside r ≡ true → queue_of (r ∷ R) x ≡ queue_of R x
 queue-aside R (rec.Joins t q reply) x h = absurd cc
 queue-aside R (rec.Parts t q) x h = absurd cc
@@ -161,7 +161,7 @@ module _ (t : ObjId) where
     entering = entering;
   }
 
-  -- t joins a queue, with an open message among senders, and where nobody is on the other side
+  -- t joins a queue, with an open message among senders, and where no thread is on the other side
   beside-joins : (R : Log) (q : Queue) (r : Option ObjId) → Beside t R → ((e : ObjId) → q ≡ Senders e → HasOpen R t × ((p : ObjId) → queue_of R p ≢ Some (Receivers e)))
       → ((e : ObjId) → q ≡ Receivers e → (x : ObjId) → queue_of R x ≢ Some (Senders e)) → Beside t (rec.Joins t q r ∷ R)
   beside-joins R q r h sends receives = record {

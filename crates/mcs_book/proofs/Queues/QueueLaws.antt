@@ -278,7 +278,7 @@ before-not_self p a h = grind arith
 before-transitive : (p i q j r k : ℕ) → comes_before p i q j ≡ true → comes_before q j r k ≡ true → comes_before p i r k ≡ true
 before-transitive p i q j r k = grind arith
 
--- nobody is ahead of itself
+-- no thread is ahead of itself
 pub ahead-irreflexive : (R : Log) (t : ObjId) → is_ahead R t t ≡ true → ⊥
 ahead-irreflexive R t h = before-not_self (prio_of R t) (place_of R t) h
 
@@ -286,7 +286,7 @@ ahead-irreflexive R t h = before-not_self (prio_of R t) (place_of R t) h
 pub ahead-transitive : (R : Log) (t u v : ObjId) → is_ahead R t u ≡ true → is_ahead R u v ≡ true → is_ahead R t v ≡ true
 ahead-transitive R t u v = before-transitive (prio_of R t) (place_of R t) (prio_of R u) (place_of R u) (prio_of R v) (place_of R v)
 
--- nobody is first, so nobody is
+-- no thread is first, so there is none
 pub first-none : (R : Log) (q : Queue) → ((x : ObjId) (k : Queue) → queue_of R x ≡ Some k → (x.kind ≡ kind.Thread) × (was_made R x ≡ true)) → first_in R q ≡ None → (x : ObjId) → queue_of R x ≢ Some q
 unfolding first_in
 first-none R q made none x stands =

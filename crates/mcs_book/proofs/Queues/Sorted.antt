@@ -35,7 +35,7 @@ in-filter p (x ∷ xs) u i h = go (p x) refl i (λ j. in-filter p xs u j h)
     go false e (inl s) later = let no : true ≡ false = sym h ∙ ap p s ∙ e in absurd cc
     go false e (inr j) later = later j
 
--- a filter keeps nobody twice
+-- a filter keeps no thread twice
 pub distinct-filter : (p : ObjId → Bool) (xs : List ObjId) → Distinct xs → Distinct (filter p xs)
 distinct-filter p [] d = tt
 distinct-filter p (x ∷ xs) d = go (p x) (distinct-filter p xs d.1)
@@ -103,12 +103,12 @@ module _ (ahead : ObjId → ObjId → Bool) where
         go false (inr (inl e)) later = inl e
         go false (inr (inr k)) later = inr (later (inr k))
 
-    -- sorting adds nobody
+    -- sorting adds no thread
     pub sort-in : (xs : List ObjId) (u : ObjId) → In u (sort_by ahead xs) → In u xs
     sort-in [] u i = i
     sort-in (x ∷ xs) u i = elim (insert-in x (sort_by ahead xs) u i) [ inl e ↦ inl e | inr j ↦ inr (sort-in xs u j) ]
 
-    -- sorting drops nobody
+    -- sorting drops no thread
     pub in-sort : (xs : List ObjId) (u : ObjId) → In u xs → In u (sort_by ahead xs)
     in-sort [] u i = i
     in-sort (x ∷ xs) u (inl e) = in-insert x (sort_by ahead xs) u (inl e)

@@ -38,7 +38,7 @@ among-without t u (v ∷ vs) = go (same u v.thread) refl (same t u) refl (among-
     go false e true f h = let s : t ≡ u = same-equal t u f in ap (λ b. same t v.thread || b) h ∙ ap (λ b. b || false) (ap (λ (x : ObjId). same x v.thread) s ∙ e)
     go false e false f h = ap (λ b. same t v.thread || b) h
 
--- a shift moves nobody in or out
+-- a shift moves no thread in or out
 pub among-shifted : (t u : ObjId) (p : ℕ) (vs : List Waiter) → is_among t (shifted u p vs) ≡ is_among t vs
 among-shifted t u p vs = go (is_among u vs) refl
   where

@@ -70,7 +70,7 @@ pub breaks-not_cancelled : AfterEachLine SendersAreOpen nothing_sent → ⊥
 unfolding computing
 breaks-not_cancelled h = let (m, o) = h.0.queued (t 1) (e 1) refl in nothing-some o.sent o.is_letter
 
--- the second answer is owed to nobody
+-- the second answer is owed to no thread
 pub breaks-answered_once : EachRecord AnswersOwed paid_twice → ⊥
 unfolding computing
 breaks-answered_once h = nothing-some (t 1) h.1.0

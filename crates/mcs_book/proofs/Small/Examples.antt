@@ -237,7 +237,7 @@ pub receivers_by_priority : outcomes_of (by 2 (do_.Recv 2 8) ∷ by 4 (do_.Recv 
 unfolding computing
 receivers_by_priority = refl
 
--- nobody receives, and nothing is there
+-- no thread receives, and nothing is there
 pub nothing_there : outcomes_of (by 1 (do_.NbSend 1 (text 7 (5 ∷ []))) ∷ by 2 (do_.NbRecv 2 8) ∷ []) ≡ line Done [] ∷ line Empty [] ∷ []
 unfolding computing
 nothing_there = refl
@@ -315,7 +315,7 @@ pub given_context : outcomes_of (by 2 (do_.Recv 2 8) ∷ by 5 (do_.UnbindCtx 22)
 unfolding computing
 given_context = refl
 
--- nothing is wrong with the boots
+-- there is no fault in the boots
 pub five_threads_faultless : IsFaultless five_threads
 unfolding computing
 five_threads_faultless = record { some_core = omega arith; few_cores = omega arith; lines = faultless }

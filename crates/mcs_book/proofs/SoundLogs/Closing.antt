@@ -79,7 +79,7 @@ pub cancelled-loose : (R : Log) (x : ObjId) (mode : Mode) → Each Safe R → Is
 unfolding cancel
 cancelled-loose R x mode safe = loose-then R x (leave R x (queue_of R x)) (say (rec.Turns x mode)) (makes-say is_plain (rec.Turns x mode) refl) (left-loose R x (queue_of R x) safe refl)
 
--- so is a thread with which nobody is left
+-- so is a thread with which no thread is left
 released-loose : (R : Log) (o : ObjId) (k : Kind) → Each Safe R → k ≡ kind.Thread → IsLoose o (onto (release R o k R) R)
 released-loose R o kind.Thread safe e =
     loose-then R o (cancel o Inactive then untie_from (bound_of R o) o) (let_go (context_of R o)) (makes-any is_plain (context_of R o) _ (λ s. makes-say is_plain _ refl))

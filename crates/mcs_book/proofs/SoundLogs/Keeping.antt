@@ -223,17 +223,17 @@ module _ (J : Log → Type 0) (steps : Steps J) where
   keeps-unhome : (s : Option ObjId) → Keeps J (unhome s)
   keeps-unhome s = keeps-any J s _ (λ x. keeps-say _ refl)
 
-  -- it is also held by nobody
+  -- it is also held by no thread
   pub keeps-unbind : (s : ObjId) → Keeps J (unbind s)
   unfolding unbind
   keeps-unbind s R = keeps-then J _ _ (keeps-any J (home_of R s) _ (λ n. keeps-say _ refl)) (keeps-any J (holder_of R s) _ (λ t. keeps-say _ refl)) R
 
-  -- a deleted reply object owes nobody any more
+  -- a deleted reply object owes no thread any more
   keeps-void : (r : ObjId) → Keeps J (void_deleted r)
   unfolding void_deleted
   keeps-void r R = keeps-any J (owed_by R r) _ (λ x. keeps-then J _ _ (keeps-then J _ _ (keeps-say _ refl) (keeps-say _ refl)) (keeps-back (topped_by R r) x)) R
 
-  -- nobody is left with an object
+  -- no thread is left with an object
   keeps-release : (R : Log) (o : ObjId) (k : Kind) → Keeps J (release R o k)
   keeps-release R o CNode = keeps-nothing J
   keeps-release R o Endpoint = keeps-cancel_all _ Restart

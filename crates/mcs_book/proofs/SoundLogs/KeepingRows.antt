@@ -77,7 +77,7 @@ module _ (t : ObjId) (J I : Log → Type 0) (enters : Entering t J I) where
   abbrev LeadsTo : (Log → Type 0) → Act → Type 0
   LeadsTo K act = (R : Log) → J R → K (onto ((act R).records) R)
 
-  -- the same where nobody receives on e
+  -- the same where no thread receives on e
   abbrev AloneTo : (Log → Type 0) → ObjId → Act → Type 0
   AloneTo K e act = (R : Log) → first_in R (Receivers e) ≡ None → J R → K (onto ((act R).records) R)
 

@@ -63,7 +63,7 @@ alive-next R r o h e =
 pub there-next : (R : Log) (r : Rec) (k : Kind) (o : ObjId) → IsThere R k o → closes o r ≡ false → IsThere (r ∷ R) k o
 there-next R r k o h e = (h.0, alive-next R r o h.1 e)
 
--- an object that is closed is one with whom nobody is left
+-- an object that is closed is one with which no thread is left
 released-as : (R : Log) (o x : ObjId) (k : Kind) → Allowed R (rec.Closed o) → x.kind ≡ k → x ≡ o → IsReleased R k x
 released-as R o x k h e is = subst (λ (j : Kind). IsReleased R j x) e (subst (λ (z : ObjId). IsReleased R z.kind z) (sym is) h.1)
 
@@ -108,7 +108,7 @@ standing-owed (rec.Paid r' y m ∷ R) x q r sound h o = elim (set-split r r' Non
 standing-owed (rec.Void r' y m ∷ R) x q r sound h o = elim (set-split r r' None (owed_by R r) (Some x) o) [ inl (who, is) ↦ absurd cc | inr (other, is) ↦ standing-owed R x q r sound.1 h is ]
 standing-owed (_ ∷ R) x q r sound h o = standing-owed R x q r sound.1 h o
 
--- the reply object of one who receives is there, and owes nobody
+-- the reply object of one who receives is there, and owes no thread
 pub reply-there : (R : Log) (x e r : ObjId) → Sound R → queue_of R x ≡ Some (Receivers e) → reply_with R x ≡ Some r → IsThere R kind.Reply r × (owed_by R r ≡ None)
 reply-there [] x e r sound h w = absurd cc
 reply-there (rec.Joins u k reply ∷ R) x e r sound h w = elim (set-split x u (Some k) (queue_of R x) (Some (Receivers e)) h) [
@@ -182,7 +182,7 @@ pub ended-idle : (R : Log) (r x : ObjId) (e : Rec) → Sound R → owed_by R r �
 ended-idle R r x e sound owed owes queues =
     (queues ∙ owed-stands_none R r x sound owed, λ d o. elim (set-split d r None (owed_by R d) (Some x) (sym (owes d) ∙ o)) [ inl (who, is) ↦ absurd cc | inr (other, is) ↦ same-never d r (owed-one R d r x sound is owed) other ])
 
--- nobody receives with a reply object that owes
+-- no thread receives with a reply object that owes
 pub owed-unattended : (R : Log) (r x : ObjId) → Sound R → owed_by R r ≡ Some x → IsUnattended R r
 owed-unattended R r x sound o y e at with = never-both (owed_by R r) x o ((reply-there R y e r sound at with).1)
 

@@ -36,8 +36,8 @@ Passes q (r ∷ made) = (q r ≡ true) × Passes q made
 pub record Makes (q : Rec → Bool) (p : Piece) : Type 0 where
   pub passes : (R : Log) → Passes q (p R)
 
--- whether a record is no message, answer or word, joins no queue, owes nobody, fills no slot, and
--- neither makes nor closes an object
+-- whether a record is no message, answer or word, joins no queue, owes no thread, fills no slot,
+-- and neither makes nor closes an object
 abbrev pub is_plain : Rec → Bool
 is_plain (rec.Made o form) = false
 is_plain (rec.Closed o) = false
@@ -50,8 +50,8 @@ is_plain (rec.Paid r x message) = false
 is_plain (rec.Heard x n word) = false
 is_plain _ = true
 
--- whether a record is no message that is sent or taken and no answer, joins no queue, owes nobody,
--- fills no slot, and neither makes nor closes an object
+-- whether a record is no message that is sent or taken and no answer, joins no queue, owes no
+-- thread, fills no slot, and neither makes nor closes an object
 abbrev pub is_quiet : Rec → Bool
 is_quiet (rec.Sent x e mode badge message) = false
 is_quiet (rec.Took m p) = false
@@ -146,7 +146,7 @@ plain-give x p = record { passes = λ R. (plain-back (context_of R x) p).passes 
 pub plain-let_go : (s : Option ObjId) → Plain (let_go s)
 plain-let_go s = makes-any is_plain s _ (λ c. makes-say is_plain _ refl)
 
--- a context is homed nowhere and held by nobody
+-- a context is homed nowhere and held by no thread
 pub plain-unbind : (s : ObjId) → Plain (unbind s)
 unfolding unbind
 plain-unbind s = record { passes = λ R. (makes-then is_plain _ _ (makes-any is_plain (home_of R s) _ (λ n. makes-say is_plain (rec.Homed s None) refl)) (makes-any is_plain (holder_of R s) _ (λ t. makes-say is_plain (rec.Holds s None) refl))).passes R }
@@ -236,12 +236,12 @@ quiet-signal n badge = record { passes = λ R. (makes-then is_quiet (say (rec.Ra
     go R (Some old) = makes-nothing is_quiet
     go R None = heard (tied_to R n) (queue_of_any R (tied_to R n)) (first_in R (Waiters n))
 
--- a deleted reply object owes nobody any more
+-- a deleted reply object owes no thread any more
 plain-void : (r : ObjId) → Plain (void_deleted r)
 unfolding void_deleted
 plain-void r = record { passes = λ R. (makes-any is_plain (owed_by R r) _ (λ x. makes-then is_plain _ _ (makes-then is_plain _ _ (makes-say is_plain (rec.Void r x Deleted) refl) (makes-say is_plain (rec.Turns x Inactive) refl)) (plain-back (topped_by R r) x))).passes R }
 
--- nobody is left with an object
+-- no thread is left with an object
 pub plain-release : (R : Log) (o : ObjId) (k : Kind) → Plain (release R o k)
 plain-release R o CNode = makes-nothing is_plain
 plain-release R o Endpoint = plain-cancel_all _ Restart

@@ -52,7 +52,7 @@ plain-safe R (rec.Slot c i held) h = absurd cc
 plain-safe R (rec.Made o form) h = absurd cc
 plain-safe R _ h = tt
 
--- a plain record lets nobody join a queue
+-- a plain record lets no thread join a queue
 pub none-plain : (R : Log) (x : ObjId) (r : Rec) → is_plain r ≡ true → queue_of R x ≡ None → queue_of (r ∷ R) x ≡ None
 none-plain R x (rec.Joins t q reply) h k = absurd cc
 none-plain R x (rec.Parts t q) h k = go (same x t)
@@ -75,7 +75,7 @@ parted-none R x q = go (same x x) (same-self x)
     go true e = refl
     go false e = absurd cc
 
--- an answer paid or void leaves nobody owed more
+-- an answer paid or void leaves no thread owed more
 pub paid-owed : (R : Log) (x r s : ObjId) → IsOwedNothing R x → unwrap_or (given (same s r) None) (owed_by R s) ≢ Some x
 paid-owed R x r s h = go (same s r)
   where
@@ -83,7 +83,7 @@ paid-owed R x r s h = go (same s r)
     go true e = absurd cc
     go false e = h s e
 
--- a plain record lets nobody come to be owed
+-- a plain record lets no thread come to be owed
 pub owed-plain : (R : Log) (x : ObjId) (r : Rec) → is_plain r ≡ true → IsOwedNothing R x → IsOwedNothing (r ∷ R) x
 owed-plain R x (rec.Owes r y c) e h s = absurd cc
 owed-plain R x (rec.Paid r y message) e h s = absurd cc
@@ -185,7 +185,7 @@ safe-owed (rec.Made o form ∷ R) r x h is =
     record { thread = i.thread; alive = alive-more R x (same x o) i.alive; made = (i.made.0, made-more (same r o) _ i.made.1) }
 safe-owed (_ ∷ R) r x h is = let i : IsOwed R r x = safe-owed R r x h.1 is in record { thread = i.thread; alive = i.alive; made = i.made }
 
--- nobody is owed twice
+-- no thread is owed twice
 pub safe-one_debt : (R : Log) (r s x : ObjId) → Each Safe R → owed_by R r ≡ Some x → owed_by R s ≡ Some x → r ≡ s
 safe-one_debt [] r s x h is too = absurd cc
 safe-one_debt (rec.Owes o y c ∷ R) r s x h is too = go (same r o) refl (same s o) refl is too (safe-one_debt R r s x h.1)

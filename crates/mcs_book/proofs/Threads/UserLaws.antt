@@ -73,11 +73,11 @@ receiver_with-found R r x e sound at with =
     let (d, stands) = receives-some (queue_of R z) p.0 in
     one_user R z x d e r sound stands (is_just-some (reply_with R z) r p.1) at with)
 
--- nobody is found, so nobody receives with r
+-- no thread is found, so no thread receives with r
 pub unattended-none : (R : Log) (r : ObjId) → Sound R → receiver_with R r ≡ None → IsUnattended R r
 unattended-none R r sound none x e at with = let no : None ≡ Some x = sym none ∙ receiver_with-found R r x e sound at with in absurd cc
 
--- when the one who receives with r has left its queue, nobody does
+-- when the one who receives with r has left its queue, no thread does
 pub unattended-parted : (R : Log) (r x e : ObjId) (mode : Mode) → Sound R → receiver_with R r ≡ Some x → queue_of R x ≡ Some (Receivers e) → IsUnattended (rec.Turns x mode ∷ rec.Parts x (Receivers e) ∷ R) r
 unattended-parted R r x e mode sound found stands y d at with =
     let (other, still) = left-queue R x y (Receivers e) (Receivers d) at in

@@ -241,7 +241,7 @@ sends-whole R s cap mode message a alone h ha = record { whole = λ S b. go S b 
         = λ o c named. (safe-named S p o b.safe named, b.thread, b.alive, none-plain (rec.Took l.number p ∷ sent_record l ∷ S) s.thread (rec.Parts p (Receivers cap.obj)) refl b.stands_none, b.owed_nothing) in
         (sent-whole R (onto (handed l p (sent_record l ∷ S)) (sent_record l ∷ S)) s a S cap mode message h, handed-whole R (onto (handed l p (sent_record l ∷ S)) (sent_record l ∷ S)) s a (sent_record l ∷ S) l p [] there.alive (begins-other R s.thread S p (Receivers cap.obj) b at) owes tt refl)
 
--- a message is sent with its sender's context before more is done, which reaches nobody but the
+-- a message is sent with its sender's context before more is done, which reaches no thread but the
 -- sender
 pub sends-first : (R after : Log) (s : Step) (cap : Cap) (message : Content) (done nobody a : Answer) (S : Log) (more : List Rec) → IsSending R s cap message → Begins R s.thread S → ((x : ObjId) → x ≢ s.thread → Passes (is_still x) more)
     → let made : List Rec = (sends (letter_over s.thread cap how.Give message) done (answers nobody nothing) S).records in after ≡ onto more (onto made S) → AreWhole R after s a S made
@@ -312,7 +312,7 @@ taken-whole R s S x q l r b at replies is =
       h.whole owes R (onto rest (rec.Took l.number s.thread ∷ S)) s (Got l.badge l.message),
     )
 
--- it reaches nobody else
+-- it reaches no other thread
 pub taken-still : (S : Log) (t x : ObjId) (l : Letter) (r : Option ObjId) → x ≢ t → Passes (is_still x) (taken l t r S)
 taken-still S t x l r ne =
     let (rest, shape, h) = taken-shape S l t r in

@@ -83,7 +83,7 @@ pay-shape S r message x owed =
       (refl, (plain-back (topped_by S r) x).passes S'),
     )
 
--- nobody is answered
+-- no thread is answered
 pay-none : (S : Log) (r : ObjId) (message : Content) → owed_by S r ≡ None → pay r message S ≡ []
 unfolding pay ◌then◌
 pay-none S r message none = ap (λ o. with_any o (λ y. say (rec.Paid r y message) then say (rec.Turns y Running) then give_back (topped_by S r) y) S) none
@@ -119,8 +119,8 @@ pay-none_stands R t S r message x b owed =
     go None is = is
     go (Some q) is = absurd ((safe-standing S x q b.safe is).owed_nothing r owed)
 
--- what comes after an answer: it reaches nobody but the entering thread, and any other who is in no
--- queue keeps its context
+-- what comes after an answer: it reaches no thread but the entering thread, and any other who is in
+-- no queue keeps its context
 pub record Follows (t : ObjId) (S : Log) (more : List Rec) : Type 0 where
   pub still : (x : ObjId) → x ≢ t → Passes (is_still x) more
   pub holders : (c y : ObjId) → y ≢ t → holder_of S c ≡ Some y → queue_of S y ≡ None → holder_of (onto more S) c ≡ Some y
@@ -165,7 +165,7 @@ HoldsReply R r = (o : ObjId) → r ≡ Some o → HeldReply R o
 held-made : (R : Log) (t : ObjId) (S : Log) (r : Option ObjId) → Begins R t S → HoldsReply R r → (o : ObjId) → r ≡ Some o → IsReplyMade S o
 held-made R t S r b h o is = let k : HeldReply R o = h o is in (k.reply, ap (λ z. was_made S z) (sym k.to) ∙ b.held k.cnode k.index k.held k.there)
 
--- an outcome of the entering thread whose records are whole, and reach nobody else
+-- an outcome of the entering thread whose records are whole, and reach no other thread
 pub record WholeReceived (R : Log) (s : Step) (S : Log) (o : Outcome) : Type 0 where
   pub whole : Begins R s.thread S → AreWhole R (onto o.records S) s o.answer S o.records
   pub follows : Follows s.thread S o.records
@@ -373,8 +373,8 @@ begins-quiets : (R : Log) (t : ObjId) (S : Log) (made : List Rec) → Passes is_
 begins-quiets R t S [] h b = b
 begins-quiets R t S (r ∷ made) h b = begins-quiets R t (r ∷ S) made h.1 (begins-quiet R t S r h.0 b)
 
--- what is sent before a receive: it is whole where what comes after it reaches nobody else, and the
--- entering thread goes on
+-- what is sent before a receive: it is whole where what comes after it reaches no other thread, and
+-- the entering thread goes on
 pub record WholeFirst (R : Log) (s : Step) (p : Piece) : Type 0 where
   pub whole : (S after : Log) (a : Answer) (more : List Rec) → Begins R s.thread S → Follows s.thread (onto (p S) S) more → after ≡ onto more (onto (p S) S) → AreWhole R after s a S (p S)
   pub begins : (S : Log) → Begins R s.thread S → Begins R s.thread (onto (p S) S)

@@ -11,14 +11,14 @@ use mcs_slots::SlotId;
 use mcs_state::State;
 use mcs_types::{BootFault, BootLine, CNODES, Cap, Guard, Kind, OBJECTS, ObjId, RADIX};
 
-/// Whether an object of this kind was made.
+/// Returns whether an object of this kind was made.
 pub(crate) fn exists_as<W: Waiting>(state: &State<W>, kind: Kind, object: ObjId) -> bool
     ensures { result ≡ is_object (so_far state.now) kind object }
 {
     object.kind.is_same(kind) && state.was_made(object)
 }
 
-/// Whether fewer objects of a kind are there than this.
+/// Returns whether fewer than `limit` objects of a kind exist.
 fn are_fewer<W: Waiting>(state: &State<W>, kind: Kind, limit: u16) -> bool
     requires { IsBooting (so_far state.now) }
     ensures { result ≡ nat_lt (number_of (so_far state.now) kind) limit }
@@ -26,28 +26,28 @@ fn are_fewer<W: Waiting>(state: &State<W>, kind: Kind, limit: u16) -> bool
     state.made(kind) < limit as u32
 }
 
-/// Whether a guard's value fits its size.
+/// Returns whether a guard's value fits its size.
 fn guard_fits(guard: Guard) -> bool
     ensures { result ≡ fits_guard guard }
 {
     guard.bits <= 63 && guard.value < 1 << guard.bits
 }
 
-/// Whether there is no guard.
+/// Returns whether there is no guard.
 fn is_unguarded(cap: &Cap) -> bool
     ensures { result ≡ has_no_guard cap.now }
 {
     cap.guard.bits == 0 && cap.guard.value == 0
 }
 
-/// Whether there are no rights and no badge.
+/// Returns whether there are no rights and no badge.
 fn is_bare(cap: &Cap) -> bool
     ensures { result ≡ has_no_rights cap.now }
 {
     cap.rights.bits() == 0 && cap.badge.0 == 0
 }
 
-/// Whether the numbers of a capability are such as its kind carries.
+/// Returns whether the rights, badge and guard of a capability are allowed for its kind.
 fn kind_fits(cap: Cap) -> bool
     ensures { result ≡ fits_kind cap.obj.kind cap }
 {
@@ -58,7 +58,7 @@ fn kind_fits(cap: Cap) -> bool
     }
 }
 
-/// Whether an index has no more than so many bits.
+/// Returns whether an index has at most `bits` bits.
 fn has_bits(index: u8, bits: u8) -> bool
     requires { bits ≤ 8 }
     ensures { result ≡ nat_lt index (2 ^ bits) }
@@ -67,7 +67,7 @@ fn has_bits(index: u8, bits: u8) -> bool
     (index as u32) < end
 }
 
-/// Whether the index is below the CNode's number of slots, where the CNode was made.
+/// Returns whether the index is below the number of slots of its CNode, which must exist.
 fn index_fits<W: Waiting>(state: &State<W>, cnode: ObjId, index: u8) -> bool
     ensures { result ≡ fits_cnode (so_far state.now) cnode index }
 {
@@ -77,7 +77,7 @@ fn index_fits<W: Waiting>(state: &State<W>, cnode: ObjId, index: u8) -> bool
     has_bits(index, state.radix(cnode))
 }
 
-/// Whether the numbers of a line are in their ranges.
+/// Returns whether the numbers of a line are in their ranges.
 fn numbers_fit<W: Waiting>(state: &State<W>, line: BootLine) -> bool
     ensures { result ≡ has_numbers state.now.book.boot.cores (so_far state.now) line }
 {
@@ -91,7 +91,7 @@ fn numbers_fit<W: Waiting>(state: &State<W>, line: BootLine) -> bool
     }
 }
 
-/// Whether a context that is named was made.
+/// Returns whether a context exists; true if none is named.
 fn context_exists<W: Waiting>(state: &State<W>, context: Option<ObjId>) -> bool
     ensures { result ≡ is_context_any (so_far state.now) context }
 {
@@ -101,7 +101,7 @@ fn context_exists<W: Waiting>(state: &State<W>, context: Option<ObjId>) -> bool
     }
 }
 
-/// Whether the objects that a line names were made.
+/// Returns whether the objects that a line names exist.
 fn objects_exist<W: Waiting>(state: &State<W>, line: &BootLine) -> bool
     ensures { result ≡ has_objects (so_far state.now) line.now }
 {
@@ -123,7 +123,7 @@ fn objects_exist<W: Waiting>(state: &State<W>, line: &BootLine) -> bool
     }
 }
 
-/// Whether there is room for the object that a line makes.
+/// Returns whether there is room for the object that a line makes.
 fn is_room<W: Waiting>(state: &State<W>, line: &BootLine) -> bool
     requires { IsBooting (so_far state.now) }
     ensures { result ≡ has_room (so_far state.now) line.now }
@@ -139,7 +139,7 @@ fn is_room<W: Waiting>(state: &State<W>, line: &BootLine) -> bool
     }
 }
 
-/// Whether a context that is named is held by nobody.
+/// Returns whether no thread holds a context; true if none is named.
 fn context_is_free<W: Waiting>(state: &State<W>, context: Option<ObjId>) -> bool
     ensures { result ≡ is_free_any (so_far state.now) context }
 {
@@ -149,7 +149,7 @@ fn context_is_free<W: Waiting>(state: &State<W>, context: Option<ObjId>) -> bool
     }
 }
 
-/// Whether what a line fills, gives or binds is free.
+/// Returns whether the slot, context, thread or notification that a line needs is still free.
 fn place_is_free<W: Waiting>(state: &State<W>, line: &BootLine) -> bool
     ensures { result ≡ is_free (so_far state.now) line.now }
 {
@@ -164,9 +164,9 @@ fn place_is_free<W: Waiting>(state: &State<W>, line: &BootLine) -> bool
     }
 }
 
-/// Checks a line of the boot. The first of these is the fault: Number where a number is out of its
-/// range, NoObject where an object that it names was not made, Limit where there are too many
-/// objects, and Taken where a slot is filled, a context is held, or a thread or a notification is
+/// Checks a line of the boot. The first of these is the fault: `Number` if a number is out of its
+/// range, `NoObject` if an object that it names was not made, `Limit` if there are too many
+/// objects, and `Taken` if a slot is filled, a context is held, or a thread or a notification is
 /// bound.
 pub(crate) fn check<W: Waiting>(state: &State<W>, line: &BootLine) -> Result<(), BootFault>
     requires { IsBooting (so_far state.now) }

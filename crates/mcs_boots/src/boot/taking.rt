@@ -1,4 +1,4 @@
-//! How a line of the boot is taken (own).
+//! Adds a line of the boot (own).
 ghost use Rattle.std.specs.Prelude.{◌≡◌, ◌≤◌, ◌<◌, ◌∷◌, ◌+◌, [], IsTrue, OnOk, OnErr, IfSome, Some, None, is_ok, length};
 ghost use Rattle.mcs_types.specs.declared.id.Kind.{Kind};
 ghost use Rattle.mcs_types.specs.declared.record.Rec.{Rec};
@@ -80,8 +80,8 @@ fn takes_context<W: Waiting>(state: &mut State<W>, thread: ObjId, context: Optio
     }
 }
 
-/// Makes the records of a line, which nothing is wrong with; where memory is refused the state is
-/// as it was.
+/// Makes the records of a line that passed all checks. If an allocation fails, the state is
+/// unchanged.
 fn takes_records<W: Waiting>(state: &mut State<W>, line: &BootLine) -> Result<(), OutOfMemory>
     requires cores { state.old.book.boot.cores ≤ core_limit }
     requires faultless { IsTrue (is_ok
@@ -126,7 +126,7 @@ fn takes_records<W: Waiting>(state: &mut State<W>, line: &BootLine) -> Result<()
     Ok(())
 }
 
-/// Takes a line of the boot, which nothing is wrong with: the boot has it, or is as it was.
+/// Adds a line of the boot that passed all checks. If an allocation fails, the boot is unchanged.
 pub(crate) fn takes_line<W: Waiting>(
     state: &mut State<W>,
     line: BootLine,

@@ -1,5 +1,5 @@
-//! Questions to the tables of what may not be there: each answers its definition over all records
-//! so far.
+//! Questions to the tables, also about missing objects: each returns what its definition says of
+//! all records so far.
 ghost use Rattle.std.specs.Prelude.{◌≡◌, option_copied, option_map};
 ghost use Rattle.mcs_book.specs.Objects.{is_alive};
 ghost use Rattle.mcs_book.specs.Queues.{queued_in};
@@ -22,7 +22,7 @@ use mcs_threads::ThreadRow;
 use mcs_types::{Cap, CoreId, Kind, OBJECTS, ObjId, Place, Prio, Queue, Refusal};
 
 impl<W: Waiting> State<W> {
-    /// The threads in a queue, first to last; none where its object is not there.
+    /// The threads in a queue, first to last; none if its object does not exist.
     pub fn queued(&self, queue: Queue) -> Queued<'_, W>
         ensures { behind result.left (so_far result.state.now) result.at
             ≡ queued_in (so_far self.now) queue }
@@ -35,8 +35,8 @@ impl<W: Waiting> State<W> {
         }
     }
 
-    /// The reply objects in the chain of a context, from the top; none where the context is not
-    /// there (own).
+    /// The reply objects in the chain of a context, from the top; none if the context does not
+    /// exist (own).
     pub fn chain(&self, context: ObjId) -> Chain<'_>
         ensures { rest_of result ≡ chain_of (so_far self.now) context }
     {
@@ -44,7 +44,7 @@ impl<W: Waiting> State<W> {
         self.replies.chain_of(context)
     }
 
-    /// Whether an object is there: it was made, and was not closed (own).
+    /// Returns whether an object exists: it was made and not closed (own).
     pub fn is_there(&self, object: ObjId) -> bool
         ensures { result ≡ is_alive (so_far self.now) object }
     {
@@ -59,14 +59,14 @@ impl<W: Waiting> State<W> {
         }
     }
 
-    /// What is kept of a thread; None where it is not there (manual: Threads and Execution).
+    /// Returns the row of a thread; None if it does not exist (manual: Threads and Execution).
     pub fn thread(&self, thread: ObjId) -> Option<&ThreadRow>
         ensures { option_copied result ≡ row_said (so_far self.now) thread }
     {
         self.threads.get(thread)
     }
 
-    /// The priority of a thread; None where it is not there (manual: Threads and Execution).
+    /// The priority of a thread; None if it does not exist (manual: Threads and Execution).
     pub fn priority_of(&self, thread: ObjId) -> Option<Prio>
         ensures { result ≡ priority_of (so_far self.now) thread }
     {
@@ -76,8 +76,8 @@ impl<W: Waiting> State<W> {
         }
     }
 
-    /// The pending word of a notification; None where no badge was raised since it was heard last,
-    /// and where the notification is not there (manual: Notifications).
+    /// The pending word of a notification; None if no badge was raised since it was heard last, and
+    /// if the notification does not exist (manual: Notifications).
     pub fn word(&self, notification: ObjId) -> Option<u64>
         ensures { result ≡ word_of (so_far self.now) notification }
     {
@@ -85,8 +85,8 @@ impl<W: Waiting> State<W> {
         self.notifications.word(notification)
     }
 
-    /// What an address of a thread names; None where the thread is not there (manual: Capability
-    /// Spaces).
+    /// Returns the capability that an address of a thread names; None if the thread does not exist
+    /// (manual: Capability Spaces).
     pub fn named(&self, thread: ObjId, address: u64) -> Option<Result<Cap, Refusal>>
         ensures { result ≡ named_for (so_far self.now) thread address }
     {
@@ -96,7 +96,7 @@ impl<W: Waiting> State<W> {
         }
     }
 
-    /// The slot that a place of a thread names; None where the thread is not there (manual:
+    /// The slot that a place of a thread names; None if the thread does not exist (manual:
     /// Capability Spaces).
     pub fn placed(&self, thread: ObjId, place: Place) -> Option<Result<SlotId, Refusal>>
         ensures { option_map (λ r. named_by r) result ≡ placed_for (so_far self.now) thread place }
@@ -107,7 +107,7 @@ impl<W: Waiting> State<W> {
         }
     }
 
-    /// The capability to the root of a thread's space; None where the thread is not there (manual:
+    /// The capability to the root of a thread's space; None if the thread does not exist (manual:
     /// Capability Spaces).
     pub fn root_of(&self, thread: ObjId) -> Option<Cap>
         ensures { result ≡ root_said (so_far self.now) thread }
@@ -118,7 +118,7 @@ impl<W: Waiting> State<W> {
         }
     }
 
-    /// The core of a context; None where it is not there (manual: Threads and Execution).
+    /// The core of a context; None if it does not exist (manual: Threads and Execution).
     pub fn core_of(&self, context: ObjId) -> Option<CoreId>
         ensures { result ≡ core_said (so_far self.now) context }
     {

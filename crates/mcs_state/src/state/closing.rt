@@ -1,4 +1,4 @@
-//! Objects that end.
+//! Closes objects.
 ghost use Rattle.std.specs.Prelude.{◌≡◌, ◌<◌, true, None, length, ◌+◌};
 ghost use Rattle.mcs_types.specs.declared.record.Rec.{Rec};
 ghost use Rattle.mcs_book.specs.Sound.{Allowed};
@@ -11,8 +11,8 @@ use mcs_notifications::Notifications;
 use mcs_object_queues::Waiting;
 use mcs_types::{Kind, ObjId, Rec};
 
-/// Ends a notification that is there, to which no thread is bound and at which no context is homed.
-/// Its word is gone.
+/// Closes an existing notification to which no thread is bound and at which no context is homed.
+/// Its word is lost.
 fn end_notification(notifications: &mut Notifications, notification: ObjId)
     requires there { is_there notifications.old notification ≡ true }
     requires unbound { thread_in notifications.old notification ≡ None }
@@ -23,7 +23,7 @@ fn end_notification(notifications: &mut Notifications, notification: ObjId)
 }
 
 impl<W: Waiting> State<W> {
-    /// Ends an object that nobody uses and no slot names any more (own).
+    /// Closes an object that no thread uses and no slot names (own).
     pub fn closes(&mut self, object: ObjId)
         requires allowed { Allowed (so_far self.old) (Rec.Closed object) }
         requires room { length self.old.hand + 1 < self.old.room }

@@ -1,4 +1,4 @@
-//! Messages that are received as they are sent.
+//! Passes a message directly to a receiver.
 ghost use Rattle.std.specs.Prelude.{◌≡◌, ◌<◌, ◌∷◌, length, ◌+◌};
 ghost use Rattle.mcs_types.specs.declared.record.Rec.{Rec};
 ghost use Rattle.mcs_book.specs.Messages.{next_message};
@@ -11,9 +11,9 @@ use mcs_packing::Lent;
 use mcs_types::{BOOK_LINES, Badge, Copied, Copies, Mail, ObjId, Rec, SendMode};
 
 impl<W: Waiting> State<W> {
-    /// Hands a message of a thread on an endpoint at once to a receiver: it is never among those
-    /// that are open.
-    // a part of its caller, so that what is sent is moved once, into the mail
+    /// Passes a message of a thread on an endpoint directly to a receiver: it is never among the
+    /// open messages.
+    // inlined, so that the message is moved once, into the mail
     #[inline(always)]
     pub fn hands(
         &mut self,

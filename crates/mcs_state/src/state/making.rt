@@ -1,4 +1,4 @@
-//! Objects that are made.
+//! Makes objects.
 ghost use Rattle.std.specs.Prelude.{◌≡◌, ◌<◌, ◌≤◌, true, length, OnOk, OnErr, ◌+◌};
 ghost use Rattle.mcs_types.specs.declared.record.Form.{Form};
 ghost use Rattle.mcs_types.specs.declared.id.Kind.{Kind};
@@ -25,7 +25,7 @@ impl<W: Waiting> State<W> {
         self.book.note(Rec::Made { object, form });
     }
 
-    /// Makes a notification: its queue, and its word with the thread bound to it.
+    /// Makes a notification, with its queue and its row.
     fn makes_notification(&mut self)
         requires allowed { MayMake (so_far self.old) Kind.Notification Form.Plain }
         requires few { HasRoom (so_far self.old) Kind.Notification }
@@ -66,7 +66,7 @@ impl<W: Waiting> State<W> {
         }
     }
 
-    /// Makes a CNode with empty slots. Where memory is refused, nothing changes.
+    /// Makes a CNode with empty slots. If memory is refused, nothing changes.
     pub fn makes_cnode(&mut self, radix: u8) -> Result<(), OutOfMemory>
         requires allowed { MayMake (so_far self.old) Kind.CNode (Form.Slots radix) }
         requires some { 1 ≤ radix }

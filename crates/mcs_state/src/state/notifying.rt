@@ -1,4 +1,4 @@
-//! Signals, the threads that hear them, and the threads that notifications are bound to.
+//! Signals, the threads that hear them, bindings and homes.
 ghost use Rattle.std.specs.Prelude.{◌≡◌, ◌<◌, true, IfSome, IsSome, is_some, is_none, length, ◌+◌};
 ghost use Rattle.mcs_types.specs.declared.id.Kind.{Kind};
 ghost use Rattle.mcs_types.specs.declared.record.Rec.{Rec};
@@ -29,8 +29,8 @@ fn tie(threads: &mut Threads, thread: ObjId, notification: Option<ObjId>)
     };
 }
 
-/// Binds a notification that is there to a thread. Where none is named, it frees the one to which
-/// the thread was bound.
+/// Binds an existing notification to a thread; if None, unbinds the one that was bound to the
+/// thread.
 fn rebind(notifications: &mut Notifications, thread: ObjId, from: Option<ObjId>, to: Option<ObjId>)
     requires from { IfSome from (λ n. is_there notifications.old n ≡ true) }
     requires to { IfSome to (λ n. is_there notifications.old n ≡ true) }
@@ -43,9 +43,8 @@ fn rebind(notifications: &mut Notifications, thread: ObjId, from: Option<ObjId>,
     }
 }
 
-/// Homes a context that is there and homed nowhere at a notification. Where none is named, it
-/// unhomes a context that is homed.
-// a part of its caller, so that no name goes through memory
+/// Homes an existing, unhomed context at a notification; if None, unhomes a homed context.
+// inlined, so that ids stay in registers
 #[inline(always)]
 fn home(contexts: &mut Contexts, context: ObjId, notification: Option<ObjId>)
     requires made { IsSome (core_in contexts.old context) }
@@ -59,8 +58,7 @@ fn home(contexts: &mut Contexts, context: ObjId, notification: Option<ObjId>)
     prove!(is_changed);
 }
 
-/// Makes a notification that is there the home of a context. Where none is named, the former home
-/// has no context any more.
+/// Makes an existing notification the home of a context; if None, clears the former home.
 fn rehome(notifications: &mut Notifications, context: ObjId, from: Option<ObjId>, to: Option<ObjId>)
     requires from { IfSome from (λ n. is_there notifications.old n ≡ true) }
     requires to { IfSome to (λ n. is_there notifications.old n ≡ true) }
@@ -133,21 +131,21 @@ impl<W: Waiting> State<W> {
         rehome(&mut self.notifications, context, old, notification);
     }
 
-    /// The notification at which a context is homed; None where it is homed nowhere (own).
+    /// The notification at which a context is homed; None if it is homed nowhere (own).
     pub fn home_of(&self, context: ObjId) -> Option<ObjId>
         ensures { result ≡ home_of (so_far self.now) context }
     {
         self.contexts.home_of(context)
     }
 
-    /// The context that is homed at a notification; None where none is (own).
+    /// The context that is homed at a notification; None if none is (own).
     pub fn homed_at(&self, notification: ObjId) -> Option<ObjId>
         ensures { result ≡ homed_at (so_far self.now) notification }
     {
         self.notifications.homed(notification)
     }
 
-    /// The notification that is bound to a thread; None where none is, and for what is no thread
+    /// The notification that is bound to a thread; None if none is, and for what is no thread
     /// (manual: Notifications).
     pub fn bound_of(&self, thread: ObjId) -> Option<ObjId>
         ensures { result ≡ bound_of (so_far self.now) thread }
@@ -158,7 +156,7 @@ impl<W: Waiting> State<W> {
         }
     }
 
-    /// The thread to which a notification is bound; None where it is bound to none (manual:
+    /// The thread to which a notification is bound; None if it is bound to none (manual:
     /// Notifications).
     pub fn tied_to(&self, notification: ObjId) -> Option<ObjId>
         ensures { result ≡ tied_to (so_far self.now) notification }
@@ -166,8 +164,8 @@ impl<W: Waiting> State<W> {
         self.notifications.bound(notification)
     }
 
-    /// The pending word of a notification that is there; None where no badge was raised since it
-    /// was heard last (manual: Notifications).
+    /// The pending word of an existing notification; None if no badge was raised since it was heard
+    /// last (manual: Notifications).
     pub fn pending(&self, notification: ObjId) -> Option<u64>
         requires { IsThere (so_far self.now) Kind.Notification notification }
         ensures { result ≡ pending (so_far self.now) notification }

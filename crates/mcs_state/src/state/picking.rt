@@ -14,14 +14,14 @@ use super::State;
 use mcs_object_queues::Waiting;
 use mcs_types::{CoreId, Kind, ObjId, Status, ThreadSet};
 
-/// Whether a thread of this status can run.
+/// Returns whether a thread of this status can run.
 fn is_ready(status: Option<Status>) -> bool
     ensures { result ≡ is_ready status }
 {
     matches!(status, Some(Status::Running | Status::Restart))
 }
 
-/// The thread of a number: the one of serial n has the number n - 1.
+/// Returns the thread of a number: serial n has the number n - 1.
 fn thread_id(number: u16) -> ObjId
     ensures { result ≡ thread_at number }
 {
@@ -32,7 +32,7 @@ fn thread_id(number: u16) -> ObjId
 }
 
 impl<W: Waiting> State<W> {
-    /// Whether a thread holds a context of a core.
+    /// Returns whether a thread holds a context of a core.
     fn has_context_of(&self, core: CoreId, thread: ObjId) -> bool
         ensures { result ≡ is_on_core core
             (option_and_then (λ s. form_of (so_far self.now) s)
@@ -44,15 +44,15 @@ impl<W: Waiting> State<W> {
         }
     }
 
-    /// Whether a thread may enter on a core: it is Running or in Restart, and holds a context of
-    /// that core.
+    /// Returns whether a thread may enter on a core: it is Running or in Restart, and holds a
+    /// context of that core.
     pub fn may_enter(&self, core: CoreId, thread: ObjId) -> bool
         ensures { result ≡ may_enter (so_far self.now) core thread }
     {
         is_ready(self.status(thread)) && self.has_context_of(core, thread)
     }
 
-    /// Whether a thread may enter on a core, and a set does not pass it over.
+    /// Returns whether a thread may enter on a core, and is not in `passed`.
     fn is_candidate(&self, core: CoreId, passed: &ThreadSet, thread: ObjId) -> bool
         ensures candidate { result ≡ is_candidate (so_far self.now) core passed.now thread }
         ensures there { IsTrue result → IsThere (so_far self.now) Kind.Thread thread }
@@ -60,8 +60,8 @@ impl<W: Waiting> State<W> {
         self.may_enter(core, thread) && !passed.contains(thread)
     }
 
-    /// Whether the thread of a number has a greater priority than the best of those before it, if
-    /// there is one.
+    /// Returns whether the thread of a number has a greater priority than the best of those before
+    /// it, if there is one.
     fn is_above(&self, number: u16, best: Option<u16>) -> bool
         requires there { IsThere (so_far self.now) Kind.Thread (thread_at number) }
         requires best { IfSome best (λ n. IsThere (so_far self.now) Kind.Thread (thread_at n)) }
@@ -75,8 +75,8 @@ impl<W: Waiting> State<W> {
         }
     }
 
-    /// The better of the thread of a number and of the best of those before it, where a set is
-    /// passed over.
+    /// Returns the better of the thread of a number and the best of those before it; threads in
+    /// `passed` do not count.
     fn better(
         &self,
         core: CoreId,
@@ -95,7 +95,7 @@ impl<W: Waiting> State<W> {
         }
     }
 
-    /// How many threads were made.
+    /// Returns how many threads were made.
     fn thread_count(&self) -> u16
         ensures count { result ≡ counted (makes_kind Kind.Thread) (so_far self.now) }
         ensures few { result ≤ 256 }
@@ -103,8 +103,8 @@ impl<W: Waiting> State<W> {
         self.threads.made()
     }
 
-    /// Of the threads that may enter on a core and are not in the set, the one of greatest
-    /// priority, then of lowest serial; None where there is none (own).
+    /// Returns, of the threads that may enter on a core and are not in `passed`, the one of
+    /// greatest priority, then of lowest serial; None if there is none (own).
     pub fn pick(&self, core: CoreId, passed: &ThreadSet) -> Option<ObjId>
         ensures { IsPick (so_far self.now) core passed.now result }
     {

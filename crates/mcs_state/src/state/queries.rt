@@ -1,4 +1,4 @@
-//! Questions to the tables: each answers its definition over all records so far.
+//! Questions to the tables: each returns what its definition says of all records so far.
 ghost use Rattle.std.specs.Prelude.{◌≡◌, ◌≤◌, true, nat_lt, IfSome, Some, option_copied, length};
 ghost use Rattle.mcs_types.specs.Limits.{object_limit};
 ghost use Rattle.mcs_types.specs.declared.id.Kind.{Kind};
@@ -33,7 +33,7 @@ use mcs_types::{
 };
 
 impl<W: Waiting> State<W> {
-    /// How many objects of a kind were made.
+    /// Returns how many objects of a kind were made.
     pub fn made(&self, kind: Kind) -> u32
         ensures { result ≡ counted (makes_kind kind) (so_far self.now) }
     {
@@ -49,7 +49,8 @@ impl<W: Waiting> State<W> {
         }
     }
 
-    /// Whether fewer endpoints, notifications, reply objects or contexts are there than may be.
+    /// Returns whether fewer endpoints, notifications, reply objects or contexts exist than are
+    /// allowed.
     pub fn has_room(&self, kind: Kind) -> bool
         requires { has_limit kind ≡ true }
         ensures { result ≡ nat_lt (number_of (so_far self.now) kind) object_limit }
@@ -63,14 +64,14 @@ impl<W: Waiting> State<W> {
         count < OBJECTS as usize
     }
 
-    /// How many messages were accepted.
+    /// Returns how many messages were accepted.
     pub fn next_message(&self) -> u32
         ensures { result ≡ next_message (so_far self.now) }
     {
         self.sent
     }
 
-    /// The mode of a thread that is there (manual: Threads and Execution).
+    /// The mode of an existing thread (manual: Threads and Execution).
     pub fn mode(&self, thread: ObjId) -> Mode
         requires { IsThere (so_far self.now) Kind.Thread thread }
         ensures { result ≡ mode_of (so_far self.now) thread }
@@ -105,7 +106,7 @@ impl<W: Waiting> State<W> {
         }
     }
 
-    /// The priority of a thread that is there (manual: Threads and Execution).
+    /// The priority of an existing thread (manual: Threads and Execution).
     pub fn priority(&self, thread: ObjId) -> Prio
         requires { IsThere (so_far self.now) Kind.Thread thread }
         ensures { result.0 ≡ prio_of (so_far self.now) thread }
@@ -116,7 +117,7 @@ impl<W: Waiting> State<W> {
         }
     }
 
-    /// The maximum controlled priority of a thread that is there (manual: Threads and Execution).
+    /// The maximum controlled priority of an existing thread (manual: Threads and Execution).
     pub fn maximum(&self, thread: ObjId) -> Prio
         requires { IsThere (so_far self.now) Kind.Thread thread }
         ensures { result.0 ≡ maximum_of (so_far self.now) thread }
@@ -127,15 +128,15 @@ impl<W: Waiting> State<W> {
         }
     }
 
-    /// What last reached a thread; None where nothing did, and for what is no thread or is not
-    /// there (manual: Message Passing).
+    /// Returns what last reached a thread; None if nothing did, or if it does not exist (manual:
+    /// Message Passing).
     pub fn mail(&self, id: ObjId) -> Option<&Mail>
         ensures { option_copied result ≡ mail_of (so_far self.now) id }
     {
         self.threads.mail(id)
     }
 
-    /// The capability to the root of the capability space of a thread that is there.
+    /// The capability to the root of the capability space of an existing thread.
     fn root(&self, thread: ObjId) -> &Cap
         requires { IsThere (so_far self.now) Kind.Thread thread }
         ensures { root_of (so_far self.now) thread ≡ Some result.now }
@@ -153,21 +154,21 @@ impl<W: Waiting> State<W> {
         self.contexts.holder(context)
     }
 
-    /// The capability in a slot, or None where the slot is empty or not there.
+    /// The capability in a slot, or None if the slot is empty or not there.
     pub fn slot(&self, at: SlotId) -> Option<Cap>
         ensures { result ≡ slot (so_far self.now) at.cnode at.index }
     {
         self.slots.get(at)
     }
 
-    /// How many slots hold a capability to an object.
+    /// Returns how many slots hold a capability to an object.
     pub fn count_of(&self, object: ObjId) -> u32
         ensures { result ≡ count_of (so_far self.now) object }
     {
         self.slots.count_of(object)
     }
 
-    /// How many bits name a slot of a CNode; 0 where it is not made.
+    /// Returns how many bits name a slot of a CNode; 0 if it is not made.
     pub fn radix(&self, cnode: ObjId) -> u8
         ensures value { result ≡ radix_kept (form_of (so_far self.now) cnode) }
         ensures few { result ≤ 8 }
@@ -183,7 +184,7 @@ impl<W: Waiting> State<W> {
     }
 
     /// Proves that each record was allowed when it was made, that few threads were made, and that
-    /// the hand has at most as many records as a line.
+    /// the open line has at most as many records as a line may have.
     pub fn is_sound(&self)
         ensures few { length self.now.hand ≤ HAND }
         ensures threads { counted (makes_kind Kind.Thread) (so_far self.now) ≤ ROOM }
@@ -192,7 +193,7 @@ impl<W: Waiting> State<W> {
         let _made = self.threads.made();
     }
 
-    /// Whether an object was ever made.
+    /// Returns whether an object was ever made.
     pub fn was_made(&self, id: ObjId) -> bool
         ensures { result ≡ was_made (so_far self.now) id }
     {
@@ -203,7 +204,7 @@ impl<W: Waiting> State<W> {
         id.serial <= self.made(id.kind)
     }
 
-    /// What a thread does; None for what is no thread or was never made.
+    /// Returns the status of a thread; None if no such thread was made.
     pub fn status(&self, id: ObjId) -> Option<Status>
         ensures { result ≡ status_of (so_far self.now) id }
     {
@@ -224,7 +225,7 @@ impl<W: Waiting> State<W> {
         self.contexts.of(thread)
     }
 
-    /// Whether a context that is there is of this core.
+    /// Returns whether an existing context is of this core.
     pub fn runs_on(&self, context: ObjId, core: CoreId) -> bool
         requires { IsThere (so_far self.now) Kind.Context context }
         ensures { result ≡ is_on_core core (form_of (so_far self.now) context) }
@@ -235,7 +236,7 @@ impl<W: Waiting> State<W> {
         }
     }
 
-    /// The first thread of a queue; None where its object is not there.
+    /// The first thread of a queue; None if its object does not exist.
     pub fn first(&self, queue: Queue) -> Option<ObjId>
         ensures { result ≡ first_in (so_far self.now) queue }
     {
@@ -243,8 +244,7 @@ impl<W: Waiting> State<W> {
         self.queues.first(queue)
     }
 
-    /// The thread after another in its queue. None where it is the last of it or is in no queue
-    /// (own).
+    /// The thread after another in its queue. None if it is the last of it or is in no queue (own).
     pub fn next(&self, thread: ObjId) -> Option<ObjId>
         ensures { result ≡ next_of (so_far self.now) thread }
     {
@@ -252,15 +252,14 @@ impl<W: Waiting> State<W> {
         self.queues.next(thread)
     }
 
-    /// The thread that receives with a reply object, or None where none is (manual: Message
-    /// Passing).
+    /// The thread that receives with a reply object, or None if none is (manual: Message Passing).
     pub fn receiver_with(&self, reply: ObjId) -> Option<ObjId>
         ensures { result ≡ receiver_with (so_far self.now) reply }
     {
         self.replies.receiver(reply)
     }
 
-    /// The caller that a reply object owes an answer, or None where it owes nobody (manual: Message
+    /// The caller that a reply object owes an answer, or None if it owes no thread (manual: Message
     /// Passing).
     pub fn owed(&self, reply: ObjId) -> Option<ObjId>
         ensures { result ≡ owed_by (so_far self.now) reply }
@@ -268,31 +267,31 @@ impl<W: Waiting> State<W> {
         self.replies.owed(reply)
     }
 
-    /// The user of a reply object: the caller that it owes, or the receiver that is queued with it;
-    /// None where nobody does (manual: Message Passing).
+    /// Returns the user of a reply object: the caller that it owes, or the receiver queued with it;
+    /// None if it has neither (manual: Message Passing).
     pub fn user_of(&self, reply: ObjId) -> Option<ObjId>
         ensures { result ≡ user_of (so_far self.now) reply }
     {
         self.replies.user(reply)
     }
 
-    /// The reply object on top of the chain of a context, or None where the chain is empty (own).
+    /// The reply object on top of the chain of a context, or None if the chain is empty (own).
     pub fn top_of(&self, context: ObjId) -> Option<ObjId>
         ensures { result ≡ head_of (chain_of (so_far self.now) context) }
     {
         self.replies.top_of(context)
     }
 
-    /// Whether a context came along no call that has not ended (own).
+    /// Returns whether the chain of a context is empty (own).
     pub fn is_unlent(&self, context: ObjId) -> bool
         ensures { result ≡ is_unlent (so_far self.now) context }
     {
         self.top_of(context).is_none()
     }
 
-    /// The capability that a thread that is there names by an address: Missing where there is none,
-    /// GuardMismatch and DepthMismatch where the address leads nowhere.
-    // a part of its callers, so that the capability is moved once less
+    /// Returns the capability that an existing thread names by an address: `Missing` if the slot is
+    /// empty, GuardMismatch or `DepthMismatch` if the address leads nowhere.
+    // inlined, so that the capability is moved once less
     #[inline(always)]
     pub fn capability(&self, thread: ObjId, address: u64) -> Result<Cap, Refusal>
         requires { IsThere (so_far self.now) Kind.Thread thread }
@@ -301,9 +300,9 @@ impl<W: Waiting> State<W> {
         lookup(&self.slots, self.root(thread), address)
     }
 
-    /// The slot that a thread that is there names by an index and a depth: Range for a depth of 0
-    /// or above 64, which comes first, and GuardMismatch and DepthMismatch where the bits lead to
-    /// no slot.
+    /// Returns the slot that an existing thread names by an index and a depth: Range for a depth of
+    /// 0 or above 64, which comes first, GuardMismatch or `DepthMismatch` if the bits lead to no
+    /// slot.
     pub fn slot_named(&self, thread: ObjId, place: Place) -> Result<SlotId, Refusal>
         requires { IsThere (so_far self.now) Kind.Thread thread }
         ensures { named_by result ≡ slot_named (so_far self.now) thread place }

@@ -1,4 +1,4 @@
-//! Debts of reply objects, from a call to its answer or its end.
+//! Debts of reply objects, from a call to its reply or its end.
 ghost use Rattle.std.specs.Prelude.{◌≡◌, ◌<◌, true, IsSome, option_and_then, length, ◌+◌};
 ghost use Rattle.mcs_types.specs.declared.record.Mail.{Mail};
 ghost use Rattle.mcs_types.specs.declared.record.Rec.{Rec};
@@ -16,7 +16,7 @@ use mcs_replies::{Ended, Replies};
 use mcs_threads::{Block, Threads};
 use mcs_types::{Badge, Copied, Copies, Ending, Mail, Message, ObjId, Rec};
 
-/// Makes a reply object that may owe owe this caller.
+/// Makes a reply object owe this caller; it must be free to.
 fn owe(replies: &mut Replies, reply: ObjId, caller: ObjId, brought: Option<ObjId>)
     requires { may_owe replies.old reply ≡ true }
     ensures { AddsDebt reply caller brought replies.old replies.new }
@@ -26,7 +26,7 @@ fn owe(replies: &mut Replies, reply: ObjId, caller: ObjId, brought: Option<ObjId
     }
 }
 
-/// The context whose chain the reply object of a debt topped, if it topped one.
+/// Returns the context whose chain the reply object of a debt topped, if any.
 fn topped(ended: Option<Ended>) -> Option<ObjId>
     requires { IsSome ended }
     ensures { result ≡ option_and_then (λ e. e.topped) ended }
@@ -34,7 +34,7 @@ fn topped(ended: Option<Ended>) -> Option<ObjId>
     ended.unwrap().topped
 }
 
-/// Gives a thread that is there an answer, with badge 0 (own), and unblocks it.
+/// Gives an existing thread a reply, with badge 0 (own), and unblocks it.
 fn answers(threads: &mut Threads, caller: ObjId, message: Message)
     requires { IsSome (row_of threads.old caller) }
     ensures { MailsFreed caller (Mail.Message (record { 0 = 0 }) message) threads.old threads.new }
@@ -46,8 +46,8 @@ fn answers(threads: &mut Threads, caller: ObjId, message: Message)
 }
 
 impl<W: Waiting> State<W> {
-    /// Makes a reply object owe a caller an answer. The context is the one that the caller brought
-    /// along (manual: Message Passing).
+    /// Makes a reply object owe a caller a reply; `brought` is the context that the caller brought
+    /// (manual: Message Passing).
     pub fn owes(&mut self, reply: ObjId, caller: ObjId, brought: Option<ObjId>)
         requires allowed { Allowed (so_far self.old) (Rec.Owes reply caller brought) }
         requires room { length self.old.hand + 1 < self.old.room }
@@ -63,8 +63,8 @@ impl<W: Waiting> State<W> {
         owe(&mut self.replies, reply, caller, brought);
     }
 
-    /// Pays the caller that a reply object owes. Returns the context whose chain the reply object
-    /// topped before, if it topped one (manual: Message Passing; chains are own).
+    /// Replies to the caller that a reply object owes. Returns the context whose chain the reply
+    /// object topped, if any (manual: Message Passing; chains are own).
     pub fn paid(&mut self, reply: ObjId, caller: ObjId, message: Copies<'_>) -> Option<ObjId>
         requires allowed { Allowed (so_far self.old) (Rec.Paid reply caller message) }
         requires room { length self.old.hand + 1 < self.old.room }

@@ -1,13 +1,12 @@
-//! Readers and writers that interrupt and fail where a test says so, and what scripts give from
-//! and to such.
+//! Readers and writers that interrupt and fail on request, and replays of scripts with them.
 use mcs_sim::{Gate, SimFault, Sink, Source, run_text, simulate};
 use std::alloc::{AllocGlobal, Global};
 use std::io::{self, ErrorKind, Read, Write};
 use std::sync::Wait;
 use std::thread::Threads;
 
-/// Gives a text a piece at a time, then so many interruptions, then the end; where no read is left,
-/// it fails.
+/// A reader of a text a piece at a time, then of this many interruptions, then the end; after the
+/// last read it fails.
 #[derive(Drop)]
 pub struct Input<'a> {
     pub text: &'a [u8],
@@ -17,7 +16,7 @@ pub struct Input<'a> {
 }
 
 impl<'a> Input<'a> {
-    /// Gives the whole text, and fails nowhere.
+    /// Returns a reader of the whole text that never fails.
     pub fn new(text: &'a [u8]) -> Input<'a> {
         Input {
             text,
@@ -43,8 +42,8 @@ impl<'a> Read for Input<'a> {
     }
 }
 
-/// Interrupts so many writes, then takes what each brings, a piece at a time, while there is room;
-/// where no write is left, it fails.
+/// A writer that interrupts this many writes, then takes a piece at a time while there is room;
+/// after the last write it fails.
 #[derive(Drop)]
 pub struct Output {
     pub taken: Vec<u8>,
@@ -55,7 +54,7 @@ pub struct Output {
 }
 
 impl Output {
-    /// Takes all that is written, and fails nowhere.
+    /// Returns a writer that takes everything and never fails.
     pub fn new(alloc: Global) -> Output {
         Output {
             taken: Vec::new(alloc),
@@ -88,7 +87,7 @@ impl Write for Output {
     }
 }
 
-/// Returns what the replay of a script gives, from a reader to a writer.
+/// Returns the result of replaying a script from a reader to a writer.
 pub fn pipe<F: Read + Drop>(alloc: Global, input: F, output: &mut Output) -> Result<(), SimFault> {
     simulate(
         alloc,
@@ -97,7 +96,7 @@ pub fn pipe<F: Read + Drop>(alloc: Global, input: F, output: &mut Output) -> Res
     )
 }
 
-/// What a script gives, and the bytes that it writes.
+/// Returns the result of a script, and the bytes that it writes.
 pub fn run(alloc: Global, script: &[u8]) -> (Result<(), SimFault>, Vec<u8>) {
     let mut output = Output::new(alloc);
     let result = pipe(alloc, Input::new(script), &mut output);
@@ -105,7 +104,7 @@ pub fn run(alloc: Global, script: &[u8]) -> (Result<(), SimFault>, Vec<u8>) {
     (result, taken)
 }
 
-/// Returns what a run of users gives, from a reader to a writer, and how many writes failed.
+/// Returns the result of a run of users, from a reader to a writer, and how many writes failed.
 pub fn pipe_users<R: AllocGlobal + Threads + Wait + Sync, F: Read, T: Gate>(
     rt: &R,
     source: &mut Source<F>,
@@ -122,7 +121,7 @@ pub fn pipe_users<R: AllocGlobal + Threads + Wait + Sync, F: Read, T: Gate>(
     }
 }
 
-/// What the users of a script give, and the bytes that are written.
+/// Returns the result of the users of a script, and the bytes that they write.
 pub fn run_users<R: AllocGlobal + Threads + Wait + Sync, T: Gate>(
     rt: &R,
     script: &[u8],

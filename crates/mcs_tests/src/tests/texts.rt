@@ -1,4 +1,4 @@
-//! Boots as texts, and what comes of texts.
+//! Boots as texts, and replays of texts.
 use crate::tests::streams::run;
 use mcs_book::Book;
 use mcs_kernel::Boot;
@@ -7,8 +7,8 @@ use mcs_types::{Badge, Kind, Mail, ObjId};
 use std::alloc::Global;
 use std::test::Fail;
 
-/// One core, a CNode, two endpoints, of which one has a badged capability to send, and two threads
-/// of priorities 10 and 20 with capabilities to each other.
+/// One core, a CNode, two endpoints, one with a badged capability to send, and two threads of
+/// priorities 10 and 20 with capabilities to each other.
 pub const ONE_CORE: &str = "\
 cores 1
 cnode 5
@@ -102,7 +102,7 @@ slot c1 12 t2
 slot c1 13 s2
 ";
 
-/// Two cores, four contexts, and five threads: one without a context, and one that does not run.
+/// Two cores, four contexts, and five threads, one without a context and one inactive.
 pub const LOOSE_THREADS: &str = "\
 cores 2
 cnode 5
@@ -164,10 +164,10 @@ pub fn thread(serial: u32) -> ObjId {
     }
 }
 
-/// What is written `-`, or is not written.
+/// The value for `-`, and for a missing number.
 pub const NONE: u32 = u32::MAX;
 
-/// The numbers of a text, of which each is a word.
+/// Returns the numbers of a text, one a word.
 pub fn numbers(text: &str) -> [u32; 12] {
     let mut all = [NONE; 12];
     let mut words = text.split_whitespace();
@@ -179,7 +179,7 @@ pub fn numbers(text: &str) -> [u32; 12] {
     all
 }
 
-/// Adds so many pieces to a text.
+/// Adds this many pieces to a text.
 pub fn add_pieces(text: &mut Vec<u8>, piece: &str, count: u32) -> Result<(), Fail> {
     for _ in 0..count {
         text.extend_from_slice(piece.as_bytes())?;
@@ -187,7 +187,7 @@ pub fn add_pieces(text: &mut Vec<u8>, piece: &str, count: u32) -> Result<(), Fai
     Ok(())
 }
 
-/// A text and so many pieces behind it, and an end.
+/// Returns a text, `count` pieces, and an end.
 pub fn repeated(
     alloc: Global,
     (text, piece, count, end): (&str, &str, u32, &str),
@@ -198,7 +198,7 @@ pub fn repeated(
     Ok(all)
 }
 
-/// How often these words stand in a text.
+/// Returns how often these words are in a text.
 pub fn occurrences(text: &[u8], words: &[u8]) -> usize {
     let parts = text.windows(words.len().max(1));
     parts.filter(|part| *part == words).count()
@@ -245,20 +245,20 @@ pub fn trace_of(alloc: Global, book: &Book) -> Result<Vec<u8>, Fail> {
     Ok(written)
 }
 
-/// Whether a trace gives itself.
+/// Returns whether a trace replays to itself.
 pub fn gives_itself(alloc: Global, trace: &[u8]) -> bool {
     let (result, written) = run(alloc, trace);
     result.is_ok() && written.as_slice() == trace
 }
 
-/// Whether a book has this trace behind its boot, which gives itself.
+/// Returns whether a book has this trace after its boot, and the trace replays to itself.
 pub fn has_trace(alloc: Global, book: &Book, boot: &str, trace: &str) -> Result<bool, Fail> {
     let want = format!(in alloc; "{boot}{trace}")?;
     let written = trace_of(alloc, book)?;
     Ok(written.as_slice() == want.as_bytes() && gives_itself(alloc, &written))
 }
 
-/// Whether this message reached a thread: its badge is 9, its label 7, its words 5 and 6.
+/// Returns whether this message reached a thread: badge 9, label 7, words 5 and 6.
 pub fn is_mail(mail: Option<&Mail>) -> bool {
     match mail {
         Some(Mail::Message { badge, message }) => {
@@ -268,7 +268,7 @@ pub fn is_mail(mail: Option<&Mail>) -> bool {
     }
 }
 
-/// Returns a number as a byte, or the greatest byte where it is none.
+/// Returns a number as a byte; the greatest byte if it does not fit.
 pub fn byte(number: u32) -> u8 {
     match u8::try_from(number) {
         Ok(byte) => byte,

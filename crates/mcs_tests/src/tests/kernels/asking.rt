@@ -1,5 +1,5 @@
-//! Who is picked, and what is reported of objects that are not there. What is reported of others,
-//! the scripts in `data/kernel` of `mcs_test_examples` say.
+//! Picks, and questions about missing objects. The scripts in `data/kernel` of `mcs_test_examples`
+//! ask about existing ones.
 use crate::tests::texts::{FIVE_THREADS, LOOSE_THREADS, replay_of, thread};
 use mcs_kernel::Kernel;
 use mcs_queues::Lines;
@@ -8,8 +8,8 @@ use mcs_types::{CoreId, Kind, ObjId, Place, ThreadSet};
 use std::alloc::Global;
 use std::test::Fail;
 
-/// Who is picked on a core while those who were picked before are passed, by their serials, and 0
-/// where nobody is left.
+/// Returns the serials of the threads picked on a core one after the other, each passed over
+/// afterwards; 0 if none is left.
 fn picked<L: Lines>(kernel: &Kernel<L>, core: u8) -> [u32; 6] {
     let mut passed = ThreadSet::new();
     let mut all = [0; 6];
@@ -22,7 +22,7 @@ fn picked<L: Lines>(kernel: &Kernel<L>, core: u8) -> [u32; 6] {
     all
 }
 
-/// Boots, a core, and who is picked there; the last is no core of its boot.
+/// Boots, a core, and the threads picked there; the last core does not exist in its boot.
 const PICKS: &[(&str, u8, [u32; 6])] = &[
     (FIVE_THREADS, 0, [5, 2, 4, 1, 3, 0]),
     (LOOSE_THREADS, 0, [1, 0, 0, 0, 0, 0]),
@@ -34,13 +34,13 @@ fn object(kind: Kind, serial: u32) -> ObjId {
     ObjId { kind, serial }
 }
 
-/// The place of a slot that is empty.
+/// The place of an empty slot.
 const PLACE: Place = Place {
     index: 3,
     depth: 64,
 };
 
-/// Whether nothing is reported of objects that are not there.
+/// Returns whether questions about missing objects return nothing.
 fn are_missing<L: Lines>(kernel: &Kernel<L>) -> bool {
     kernel.radix(object(Kind::CNode, 2)) == 0
         && kernel.core(object(Kind::Context, 6)).is_none()
@@ -49,7 +49,7 @@ fn are_missing<L: Lines>(kernel: &Kernel<L>) -> bool {
         && kernel.root(thread(6)).is_none()
 }
 
-/// Whether a place is found, nothing turns the first thread away, and nothing was sent or bound.
+/// Returns whether a place is found, the first thread may enter, and nothing was sent or bound.
 fn is_idle<L: Lines>(kernel: &Kernel<L>) -> bool {
     let slot = SlotId {
         cnode: object(Kind::CNode, 1),
@@ -62,7 +62,7 @@ fn is_idle<L: Lines>(kernel: &Kernel<L>) -> bool {
         && kernel.sent() == 0
 }
 
-/// Whether these are picked on a core behind a boot, where nothing was entered.
+/// Returns whether these threads are picked on a core after a boot, before any entry.
 fn are_picked(alloc: Global, boot: &str, core: u8, want: [u32; 6]) -> Result<bool, Fail> {
     let run = replay_of(alloc, boot)?;
     match run.kernel() {

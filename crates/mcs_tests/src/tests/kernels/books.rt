@@ -1,4 +1,4 @@
-//! A book gives back the lines that were added to it.
+//! A book returns the lines that were added to it.
 use crate::tests::texts::{replay_of, trace_of};
 use mcs_book::{Book, Line};
 use mcs_types::{
@@ -8,8 +8,8 @@ use mcs_types::{
 use std::alloc::Global;
 use std::test::Fail;
 
-/// Each entry, with the greatest numbers where it is refused, and each answer: those that receive
-/// with a short message and with a long one.
+/// Each entry, with the greatest numbers if it is refused, and each answer: receives with a short
+/// and with a long message.
 const ENTRIES: &str = "\
 cores 1
 cnode 5
@@ -60,10 +60,11 @@ slot c1 12 c2 0 0
 0 t2 delete 12 64
 ";
 
-/// How many entries these are.
+/// The number of these entries.
 const COUNT: usize = 32;
 
-/// A CNode, a thread, an endpoint, a notification, a reply object and a context, of great serials.
+/// A CNode, a thread, an endpoint, a notification, a reply object and a context, with large
+/// serials.
 const OWN: [ObjId; 6] = [
     ObjId {
         kind: Kind::CNode,
@@ -91,7 +92,8 @@ const OWN: [ObjId; 6] = [
     },
 ];
 
-/// The same places with objects of other kinds: no run records them, but a record may name them.
+/// Objects of other kinds in the same positions: no run makes such records, but a record may have
+/// them.
 const ODD: [ObjId; 6] = [
     ObjId {
         kind: Kind::Thread,
@@ -134,7 +136,7 @@ fn cap_to(obj: ObjId, badge: u64, bits: u8, value: u64) -> Option<Cap> {
     })
 }
 
-/// What was made and ended, and what slots hold: the records of these numbers.
+/// Returns the record with this number about objects made or closed, or slots.
 fn of_objects(number: usize, names: [ObjId; 6]) -> Option<Rec> {
     let [cnode, thread, endpoint, notification, reply, context] = names;
     let (maximum, core) = (Prio(255), CoreId(255));
@@ -164,7 +166,8 @@ fn of_objects(number: usize, names: [ObjId; 6]) -> Option<Rec> {
     Some(Rec::Made { object, form })
 }
 
-/// How a thread runs, holds a context and is bound, and where a context is homed.
+/// Returns the record with this number about a thread's mode, context or notification, or a
+/// context's home.
 fn of_threads(number: usize, names: [ObjId; 6]) -> Option<Rec> {
     let [_, thread, _, other, _, context] = names;
     let priority = Prio(255);
@@ -199,7 +202,8 @@ fn of_threads(number: usize, names: [ObjId; 6]) -> Option<Rec> {
     Some(Rec::Turns { thread, mode })
 }
 
-/// How a thread stands in each kind of queue, without and with a reply object, and leaves it.
+/// Returns the record with this number about a thread that joins a queue, with or without a reply
+/// object, or leaves it.
 fn of_queues(number: usize, names: [ObjId; 6]) -> Option<Rec> {
     let [_, thread, endpoint, notification, own, _] = names;
     let queue = match number {
@@ -220,7 +224,7 @@ fn of_queues(number: usize, names: [ObjId; 6]) -> Option<Rec> {
     })
 }
 
-/// What was taken and dropped, raised and heard, and what reply objects owe and how that ends.
+/// Returns the record with this number about messages taken or dropped, words, or debts.
 fn of_words(number: usize, names: [ObjId; 6]) -> Option<Rec> {
     let [_, thread, _, notification, reply, lent] = names;
     let caller = thread;
@@ -267,7 +271,7 @@ fn of_words(number: usize, names: [ObjId; 6]) -> Option<Rec> {
     })
 }
 
-/// The greatest label, and so many words, from the greatest down.
+/// Returns a message with the greatest label and `count` words, from the greatest down.
 fn message(alloc: Global, count: u64) -> Result<Message, Fail> {
     let mut words = Vec::new(alloc);
     for i in 0..count {
@@ -276,8 +280,8 @@ fn message(alloc: Global, count: u64) -> Result<Message, Fail> {
     Ok(Message::new(alloc, (1 << 52) - 1, &words)?.ok_or("message")?)
 }
 
-/// How messages are sent, with which badges, and how many words they have. The first that is long
-/// finds room among the words; the one behind it, and that of a debt, stand beside the records.
+/// How messages are sent, with which badges, and with how many words. The first long one fits among
+/// the words; the next, and that of a reply, are kept unpacked.
 const SENT: &[(SendMode, u64, u64)] = &[
     (SendMode::Plain, 0, 0),
     (SendMode::Call, 9, 1),
@@ -286,7 +290,7 @@ const SENT: &[(SendMode, u64, u64)] = &[
     (SendMode::Plain, 0, 5),
 ];
 
-/// What was sent, and behind that how a debt is paid.
+/// Returns the record with this number about messages: sent, and then a reply.
 fn of_messages(alloc: Global, number: usize, names: [ObjId; 6]) -> Result<Rec, Fail> {
     let [_, thread, endpoint, _, reply, _] = names;
     match SENT.get(number) {
@@ -330,8 +334,8 @@ fn note_all(alloc: Global, book: &mut Book, names: [ObjId; 6]) -> Result<(), Fai
     Ok(())
 }
 
-/// Adds a line with the entry of one line and the answer of another, and records of all kinds; each
-/// second one has the odd names.
+/// Adds a line with the entry of one line, the answer of another, and records of all kinds; every
+/// second line is about the objects in `ODD`, the others about those in `OWN`.
 fn add_line(
     alloc: Global,
     book: &mut Book,
@@ -352,7 +356,7 @@ fn add_line(
     Ok(())
 }
 
-/// Adds a line for each line of a book, with the answers from the last to the first.
+/// Adds a line for each line of a book, with the answers in reverse order.
 fn add_lines(alloc: Global, book: &mut Book, from: &Book) -> Result<(), Fail> {
     let lines = from.lines();
     for i in 1..lines {
@@ -363,7 +367,7 @@ fn add_lines(alloc: Global, book: &mut Book, from: &Book) -> Result<(), Fail> {
     Ok(())
 }
 
-/// Puts the records that a line gives back.
+/// Adds the records that a line returns.
 fn put_again(alloc: Global, records: &mut Vec<Rec>, line: &Line<'_>) -> Result<(), Fail> {
     for i in 0..line.record_count() {
         records.push(line.record(alloc, i)?.ok_or("record")?)?;
@@ -371,7 +375,7 @@ fn put_again(alloc: Global, records: &mut Vec<Rec>, line: &Line<'_>) -> Result<(
     Ok(())
 }
 
-/// Adds what a line gives back.
+/// Adds a line with what another line returns.
 fn add_again(alloc: Global, book: &mut Book, line: &Line<'_>) -> Result<(), Fail> {
     let mut records = Vec::new(alloc);
     put_again(alloc, &mut records, line)?;
@@ -380,7 +384,7 @@ fn add_again(alloc: Global, book: &mut Book, line: &Line<'_>) -> Result<(), Fail
     Ok(())
 }
 
-/// Adds the lines of a book behind its boot to another.
+/// Adds the lines of a book after its boot to another book.
 fn add_lines_again(alloc: Global, other: &mut Book, book: &Book) -> Result<(), Fail> {
     for i in 1..book.lines() {
         add_again(alloc, other, &book.line(i).ok_or("line")?)?;
@@ -388,7 +392,7 @@ fn add_lines_again(alloc: Global, other: &mut Book, book: &Book) -> Result<(), F
     Ok(())
 }
 
-/// With this the text begins: the first entry, the last answer, and what it records of odd names.
+/// The beginning of the text: the first entry, the last answer, and its records with odd objects.
 const BEGINNING: &str = "\
 cores 2
 255 t4294967286 recv 18446744073709551615 1
@@ -426,7 +430,7 @@ cores 2
 + slot t4294967295 255 r4294967292
 ";
 
-/// Returns the text of a book of a line for each entry.
+/// Returns the text of a book with a line for each entry.
 fn first_text(alloc: Global, book: &mut Book) -> Result<Vec<u8>, Fail> {
     let run = replay_of(alloc, ENTRIES)?;
     match run.book() {
@@ -436,7 +440,7 @@ fn first_text(alloc: Global, book: &mut Book) -> Result<Vec<u8>, Fail> {
     trace_of(alloc, book)
 }
 
-/// The text of a book of what a book gives back.
+/// Returns the text of a book with what another book returns.
 fn second_text(alloc: Global, book: &Book) -> Result<Vec<u8>, Fail> {
     let mut other = Book::new(alloc, 2);
     add_lines_again(alloc, &mut other, book)?;

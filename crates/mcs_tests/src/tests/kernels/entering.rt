@@ -9,7 +9,7 @@ use mcs_types::{Answer, BootFault, CoreId, Entry, Status, Step};
 use std::alloc::Global;
 use std::test::Fail;
 
-/// The cores of a boot that is asked for so many.
+/// Returns the cores of a boot, given the number asked for.
 fn cores(alloc: Global, count: u8) -> Result<u8, BootFault> {
     Ok(Boot::new(alloc, count)?.cores())
 }
@@ -26,13 +26,12 @@ fn cores_are_limited(rt: HostRuntime) {
     }
 }
 
-/// The address at which a receive is refused: there is no right to read, or no capability; and that
-/// of a reply object.
+/// The addresses of a capability without Read, of an empty slot, and of a reply object.
 const CAP: u64 = 1;
 
 const OWN: u64 = 8;
 
-/// Returns whether the receive of a thread is refused, or why it is turned away.
+/// Returns whether the receive of a thread is refused, or why it is skipped.
 fn is_refused<L: Lines>(
     alloc: Global,
     kernel: &mut Kernel<L>,
@@ -50,13 +49,13 @@ fn is_refused<L: Lines>(
     }
 }
 
-/// The kernel over the boot of a script.
+/// Returns a kernel after the boot of a script.
 fn booted(alloc: Global, script: &str) -> Result<Kernel<LinkedLines>, Fail> {
     let boot = boot_of_script(alloc, script)?;
     Ok(Kernel::new(alloc, &boot)?)
 }
 
-/// Threads that enter on a core, and what comes of that.
+/// Threads that enter on a core, and the results.
 const ENTERING: &[(u8, u32, Result<bool, EnterFault>)] = &[
     (1, 1, Err(EnterFault::WrongCore)),
     (0, 2, Err(EnterFault::WrongCore)),
@@ -78,10 +77,10 @@ fn who_may_not_enter_is_turned_away(rt: HostRuntime) -> Result<(), Fail> {
     Ok(())
 }
 
-/// So many lines a book has at most, that of the boot among them.
+/// How many lines a book has at most, the boot's included.
 const LINES: usize = 1_000_000;
 
-/// Fills a book. Whether each receive is refused.
+/// Fills a book. Returns whether each receive is refused.
 fn is_filled<L: Lines>(alloc: Global, kernel: &mut Kernel<L>) -> bool {
     for _ in 1..LINES {
         if is_refused(alloc, kernel, 0, 1) != Ok(true) {
@@ -91,7 +90,8 @@ fn is_filled<L: Lines>(alloc: Global, kernel: &mut Kernel<L>) -> bool {
     kernel.book().lines() == LINES
 }
 
-/// Who enters at a full book, and why it is turned away: what is not for want of room comes first.
+/// Threads that enter at a full book, and why they are skipped: other reasons come before the full
+/// book.
 const FULL: &[(u32, EnterFault)] = &[(1, EnterFault::BookFull), (6, EnterFault::NotRunning)];
 
 #[test]
@@ -111,7 +111,7 @@ const MESSAGE: &str = "\
 0 t2 recv 2 8
 ";
 
-/// Adds the first step of a book twice, which is turned away then, and the second.
+/// Adds the first step of a book twice, of which the second is skipped, and the second step.
 fn add_steps(alloc: Global, steps: &mut Vec<Step>, book: &Book) -> Result<(), Fail> {
     for i in [1, 1, 2] {
         steps.push(book.line(i).ok_or("a line")?.step(alloc)?)?;
@@ -119,7 +119,7 @@ fn add_steps(alloc: Global, steps: &mut Vec<Step>, book: &Book) -> Result<(), Fa
     Ok(())
 }
 
-/// Whether the steps of a book were replayed but the second, which was turned away.
+/// Returns whether the steps of a book were replayed except the skipped second one.
 fn are_replayed(alloc: Global, book: &Book) -> Result<bool, Fail> {
     let mut steps = Vec::new(alloc);
     add_steps(alloc, &mut steps, book)?;

@@ -1,4 +1,4 @@
-//! Users on one core, and two cores of which each has picked before the other enters.
+//! Users on one core, and two cores that have both picked before one enters.
 use crate::tests::machines::runs::{Away, Ran, run_users};
 use crate::tests::texts::{FREE_CONTEXT, ONE_CORE, TWO_CORES, has_trace, thread};
 use mcs_cores::Gate;
@@ -12,7 +12,7 @@ use std::sync::atomic::{AtomicU64, Ordering};
 use std::test::Fail;
 use std::thread::Threads;
 
-/// Holds core 1 until core 0 has picked, and core 0 until core 1 has so many answers.
+/// A gate that holds core 1 until core 0 has picked, and core 0 until core 1 has this many answers.
 #[derive(Drop)]
 struct Crossing {
     answers: u64,
@@ -22,7 +22,7 @@ struct Crossing {
 }
 
 impl Crossing {
-    /// Waits until a count is reached; the run fails where that takes too long.
+    /// Waits until a count is reached; the run fails if that takes too long.
     fn await_count(&self, count: &AtomicU64, least: u64) {
         for _ in 0..1_000_000_000u64 {
             if count.load(Ordering::SeqCst) >= least {
@@ -51,11 +51,11 @@ impl Gate for Crossing {
     }
 }
 
-/// What may be turned away: nothing, or an entry of the first thread on core 0, with how many lines
-/// the book had then, and why.
+/// What may be skipped: nothing, or an entry of the first thread on core 0, with the length of the
+/// book at that time, and the reason.
 type TurnedAway = Option<(usize, EnterFault)>;
 
-/// Whether that is all that was turned away.
+/// Returns whether this is all that was skipped.
 fn is_away(told: Away, away: &TurnedAway) -> bool {
     match *away {
         None => told.0 == 0,
@@ -63,8 +63,8 @@ fn is_away(told: Away, away: &TurnedAway) -> bool {
     }
 }
 
-/// A boot, the steps of its threads, how many answers of core 1 core 0 waits for, what may become
-/// of what core 0 picked, and the trace behind the boot.
+/// A boot, the steps of its threads, for how many answers of core 1 core 0 waits, the possible
+/// outcomes of what core 0 picked, and the trace after the boot.
 type Row = (
     &'static str,
     &'static str,
@@ -73,8 +73,8 @@ type Row = (
     &'static str,
 );
 
-/// Runs the steps of threads behind a boot. Core 0 enters what it picked first after so many
-/// answers of core 1.
+/// Runs the steps of threads after a boot. Core 0 enters its first pick after this many answers of
+/// core 1.
 fn crossed<R: Threads + Wait + Sync>(
     rt: &R,
     alloc: Global,
@@ -94,7 +94,7 @@ fn crossed<R: Threads + Wait + Sync>(
     Ok(ran)
 }
 
-/// Whether such a run turns away one of these, and has this trace.
+/// Returns whether such a run skips one of these, and has this trace.
 fn is_crossed<R: Threads + Wait + Sync>(
     rt: &R,
     alloc: Global,
@@ -122,7 +122,7 @@ pub const RECEIVER_FIRST: &str = "\
 + turns t2 running
 ";
 
-/// The trace of a send that waits, and is given again after its thread was restarted.
+/// The trace of a send that waits, and is retried after its thread was restarted.
 pub const GIVEN_AGAIN: &str = "\
 0 t2 send 1 7
 = waits
@@ -162,8 +162,8 @@ fn gate_row_16(rt: HostRuntime) -> Result<(), Fail> {
     Ok(())
 }
 
-/// Users on one core, and what the second thread may do on another between the pick and the entry
-/// of the first.
+/// Users on one core, and what the second thread may do on another core between the pick and the
+/// entry of the first.
 const CROSSINGS: &[Row] = &[
     (
         ONE_CORE,
@@ -255,8 +255,7 @@ const CROSSINGS: &[Row] = &[
 = refused 4
 ",
     ),
-    // Core 1 may give the entry before it is entered, which the position shows, or after it was
-    // turned away.
+    // Core 1 may enter the entry first, which the position shows, or after it was skipped.
     (
         FREE_CONTEXT,
         "0 t1 signal 1\n1 t2 unbind 2\n1 t2 bind 4 1\n",

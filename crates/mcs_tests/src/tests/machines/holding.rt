@@ -10,8 +10,8 @@ use std::sync::atomic::{AtomicU64, Ordering};
 use std::test::Fail;
 use std::thread::Threads;
 
-/// Holds a core at its pick of this number, counted from 1, until another core has an answer or it
-/// has looked for long.
+/// A gate that holds a core at its pick with this number, counted from 1, until another core has an
+/// answer, or for a bounded time.
 #[derive(Drop)]
 struct Holding {
     core: CoreId,
@@ -43,7 +43,7 @@ impl Gate for Holding {
     }
 }
 
-/// Four senders, and a receiver that asks four times and does not wait.
+/// Four senders, and a receiver that polls four times.
 const USERS: &str = "\
 user t1 send 1 1
 user t2 send 1 2
@@ -55,7 +55,7 @@ user t5 nbrecv 2 8
 user t5 nbrecv 2 8
 ";
 
-/// Whether a run in which this core is held at this pick has all entries, and gives itself.
+/// Returns whether a run, with this core held at this pick, has all entries and replays to itself.
 fn is_settled<R: AllocGlobal + Threads + Wait + Sync>(
     rt: &R,
     script: &[u8],

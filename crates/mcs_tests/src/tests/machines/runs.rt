@@ -14,8 +14,8 @@ use std::sync::ledger::{Blank, Ledger};
 use std::test::Fail;
 use std::thread::Threads;
 
-/// How many entries were turned away, and of the last its core, its thread, how many lines the book
-/// had then, and why.
+/// How many entries were skipped, and of the last one its core, its thread, the length of the book
+/// at that time, and the reason.
 pub type Away = (usize, Option<(CoreId, ObjId, usize, EnterFault)>);
 
 /// A run that ended well and was settled.
@@ -25,7 +25,7 @@ pub struct Ran<L: Lines> {
     pub away: Away,
 }
 
-/// What was turned away.
+/// Returns what was skipped.
 fn away_of<G: Ledger>(seats: &[CoreSeat<G>]) -> Away {
     let mut count: usize = 0;
     let mut last = None;
@@ -56,7 +56,7 @@ fn seats_of<G: Ledger, L: Lines, R: Wait>(
     }
 }
 
-/// Runs the users on a machine. The seats come back, and what was turned away.
+/// Runs the users on a machine. The seats come back, and what was skipped.
 fn run_seats<G: Ledger + Send + Sync, L: Lines + Send + Sync, R: Threads + Wait + Sync, T: Gate>(
     rt: &R,
     alloc: Global,
@@ -125,7 +125,7 @@ fn run_book<R: Threads + Wait + Sync, T: Gate>(
 }
 
 /// Runs the boot and the entries of a script without fault on a machine, and settles it. The
-/// entries are those of a replay, so each has to be let in by one.
+/// entries are those of a replay, so some core must accept each.
 pub fn run_users<R: Threads + Wait + Sync, T: Gate>(
     rt: &R,
     alloc: Global,

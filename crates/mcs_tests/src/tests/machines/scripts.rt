@@ -9,10 +9,10 @@ use std::sync::Wait;
 use std::test::Fail;
 use std::thread::Threads;
 
-/// What users say after the boot, and what the trace has after it.
+/// Lines of users after the boot, and their trace after it.
 const RUNS: &[(&str, &str)] = &[
     ("", ""),
-    // The thread of greater priority comes first, whatever line is first.
+    // The thread of greater priority comes first, whatever the order of lines.
     (
         "\
 user t1 send 1 7
@@ -31,7 +31,7 @@ user t1 nbrecv 2 8
     ),
 ];
 
-/// A client on each of two cores, and a server on the second, which stands receiving at the end.
+/// A client on each of two cores, and a server on the second, which receives at the end.
 const TWO_CORES: &str = "\
 cores 2
 cnode 5
@@ -55,7 +55,7 @@ user t3 replyrecv 2 3 202
 user t3 replyrecv 2 3 203
 ";
 
-/// Whether these users on one core give this trace, which gives itself.
+/// Returns whether these users on one core give this trace, which replays to itself.
 fn give_trace<R: AllocGlobal + Threads + Wait + Sync>(
     rt: &R,
     users: &str,
@@ -105,12 +105,12 @@ user t3 replyrecv 2 3 202 11 12 13 14 15 16 17
 user t3 replyrecv 2 3 203 11 12 13 14 15 16 17
 ";
 
-/// Words of a trace, how often they come at least, and at most.
+/// Words of a trace, and how often they come, at least and at most.
 type Count = (&'static [u8], usize, usize);
 
-/// Scripts for two cores, and how often words come. Each entry has an answer; of long messages all
-/// words are written: each call as its step and its record, and as an answer where the server asked
-/// after it; each answer as its step and its record.
+/// Scripts for two cores, and how often words come. Each entry has an answer. All words of long
+/// messages are written: of a call in its step, its record, and the answer if the server received
+/// later; of a reply in its step and its record.
 const SIDE_BY_SIDE: &[(&str, &[Count])] = &[
     (TWO_CORES, &[(b"\n= ", 7, 7)]),
     (
@@ -122,7 +122,7 @@ const SIDE_BY_SIDE: &[(&str, &[Count])] = &[
     ),
 ];
 
-/// Whether a run on two cores gives itself, and words come so often.
+/// Returns whether a run on two cores replays to itself, and words come this often.
 fn is_side_by_side<R: AllocGlobal + Threads + Wait + Sync>(
     rt: &R,
     script: &str,
@@ -147,7 +147,7 @@ fn runs_on_two_cores_are_replayed(rt: HostRuntime) {
     }
 }
 
-/// Whether a run of a script ends so, and writes nothing.
+/// Returns whether a run of a script ends so, and writes nothing.
 fn ends<R: AllocGlobal + Threads + Wait + Sync>(
     rt: &R,
     script: &[u8],
@@ -161,8 +161,8 @@ fn ends<R: AllocGlobal + Threads + Wait + Sync>(
 /// A script whose last line has no form.
 const NONSENSE: &str = "# users\ncores 1\nendpoint\nnonsense\n";
 
-/// Scripts, how many cores are asked for, and which line is faulty, and why: other cores are told
-/// before what stands behind them.
+/// Scripts, the number of cores asked for, the faulty line, and its fault: a wrong number of cores
+/// is reported before later lines.
 const FAULTS: &[(&str, Option<u8>, u64, LineFault)] = &[
     ("", None, 1, LineFault::NoCores),
     (NONSENSE, None, 4, LineFault::Form),
@@ -187,8 +187,7 @@ fn a_run_fills_the_book(rt: HostRuntime) -> Result<(), Fail> {
     Ok(())
 }
 
-/// What a run gives whose reads and writes fail behind so many, and how many reads and writes
-/// failed.
+/// Returns the result of a run whose reads and writes fail after this many, and how many failed.
 fn failed<R: AllocGlobal + Threads + Wait + Sync>(
     rt: &R,
     reads_left: u32,

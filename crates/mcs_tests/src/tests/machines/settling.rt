@@ -33,14 +33,14 @@ const TRACE: &str = "\
 + turns t1 running
 ";
 
-/// What becomes of the seats before a machine is finished.
+/// Which seats are given back when a machine is finished.
 #[derive(Clone, Copy)]
 enum Seats {
-    /// They are all handed in.
+    /// All of them.
     All,
-    /// One is kept back.
+    /// All but one.
     NotOne,
-    /// They were never given.
+    /// They were never created.
     NeverGiven,
 }
 
@@ -75,8 +75,7 @@ fn enter_steps<G: Ledger, L: Lines, R: Wait>(
     Ok(())
 }
 
-/// Returns the seats with which a machine is finished, of which the first has entered the steps of
-/// a book.
+/// Returns the seats with which a machine is finished; the first has entered the steps of a book.
 fn seats_for<G: Ledger, L: Lines, R: Wait>(
     rt: &R,
     alloc: Global,
@@ -154,8 +153,7 @@ fn settles(rt: HostRuntime) -> Result<(), Fail> {
     Ok(())
 }
 
-/// Boots with which a machine of one core is finished, what becomes of its seats, and how that
-/// ends.
+/// Boots with which a machine of one core is finished, which seats are given back, and the result.
 const FAULTS: &[(&str, Seats, FinishFault)] = &[
     (ONE_CORE, Seats::NotOne, FinishFault::MissingSeat),
     (ONE_CORE, Seats::NeverGiven, FinishFault::MissingSeat),
@@ -163,7 +161,7 @@ const FAULTS: &[(&str, Seats, FinishFault)] = &[
     (TWO_CORES, Seats::All, FinishFault::OtherBoot),
 ];
 
-/// Whether a machine of one core that is finished with this boot and these seats ends so.
+/// Returns whether a machine of one core, finished with this boot and these seats, ends so.
 fn is_fault<R: Wait>(
     rt: &R,
     alloc: Global,

@@ -5,23 +5,22 @@ use mcs_sim::SimFault;
 use std::alloc::Global;
 use std::test::Fail;
 
-/// What a script gives from a reader to a writer, and what is written.
+/// Returns the result of replaying a script from a reader to a writer, and the bytes written.
 fn piped(alloc: Global, input: Input<'_>, mut output: Output) -> (Result<(), SimFault>, Vec<u8>) {
     let result = pipe(alloc, input, &mut output);
     let Output { taken, .. } = output;
     (result, taken)
 }
 
-/// How often reads are interrupted, how many are left, how often writes are interrupted, how many
-/// bytes one takes, and how many find room.
+/// How often reads are interrupted, how many reads succeed, how often writes are interrupted, how
+/// many bytes a write takes, and how many fit in all.
 type Limits = (u32, u32, u32, usize, usize);
 
 /// All bytes.
 const ALL: usize = usize::MAX;
 
-/// Limits, what the boot gives within them, and how many bytes are written: the one read of the
-/// text is left, there are so many interruptions as are tried again, or one more, or a write finds
-/// no room.
+/// Limits, the result of a boot within them, and how many bytes are written: as many interruptions
+/// as are retried, or one more, or a write without room.
 const LIMITS: &[(Limits, Result<(), SimFault>, usize)] = &[
     ((0, 1, 0, ALL, ALL), Err(SimFault::Read), 0),
     ((999, u32::MAX, 0, ALL, ALL), Ok(()), ALL),
@@ -31,7 +30,7 @@ const LIMITS: &[(Limits, Result<(), SimFault>, usize)] = &[
     ((0, u32::MAX, 0, 7, 100), Err(SimFault::Write), 100),
 ];
 
-/// Whether the boot gives this within limits, and so many of its bytes are written.
+/// Returns whether a boot has this result within limits, and this many of its bytes are written.
 fn is_limited(
     alloc: Global,
     (reads, reads_left, writes, piece, room): Limits,
@@ -68,8 +67,8 @@ const READ_PIECE: usize = 50;
 
 const WRITE_PIECE: usize = 7;
 
-/// Two calls on one context, of which the first is answered before the second; the last step is
-/// turned away.
+/// Two calls on one context, of which the first gets its reply before the second; the last step is
+/// skipped.
 const MIDDLE_STEPS: &str = "\
 0 t2 recv 2 8
 0 t3 recv 3 9
@@ -82,7 +81,7 @@ const MIDDLE_STEPS: &str = "\
 0 t1 nbrecv 2 8
 ";
 
-/// What the trace has for these.
+/// The trace of these steps.
 const MIDDLE_TRACE: &str = "\
 0 t2 recv 2 8
 = waits
@@ -123,8 +122,8 @@ const MIDDLE_TRACE: &str = "\
 + holds s1 t2
 ";
 
-/// How a script with this trace ends where so many reads and writes do not fail, or by this fault:
-/// then it has written a beginning of the trace, and without fault all of it. None where what is
+/// Returns how a script with this trace ends if reads and writes fail after this many, or by this
+/// fault: then it has written a prefix of the trace, and without fault all of it. None if what is
 /// written is wrong.
 fn ended(
     alloc: Global,
@@ -157,7 +156,7 @@ fn ended(
 fn each_read_fails_in_turn(rt: HostRuntime) -> Result<(), Fail> {
     let script = repeated(rt.alloc(), (BOOT, MIDDLE_STEPS, 1, ""))?;
     let trace = repeated(rt.alloc(), (BOOT, MIDDLE_TRACE, 1, ""))?;
-    // so many pieces, and the one that finds the end
+    // this many pieces, and the one that finds the end
     let pieces = u32::try_from(script.len().div_ceil(READ_PIECE)).unwrap_or(u32::MAX);
     let reads = pieces.saturating_add(1);
     for left in 0..=reads {
@@ -173,8 +172,8 @@ fn each_read_fails_in_turn(rt: HostRuntime) -> Result<(), Fail> {
     Ok(())
 }
 
-/// How many writes do not fail where a script with this trace ends well: None where something is
-/// wrong before.
+/// Returns how many writes a script with this trace needs to end well; None if something is wrong
+/// before.
 fn writes(alloc: Global, texts: (&[u8], &[u8])) -> Option<u32> {
     for left in 0..10_000 {
         if ended(alloc, texts, (u32::MAX, left), SimFault::Write)?.is_ok() {

@@ -6,7 +6,7 @@ use std::alloc::Global;
 use std::env::{Env, FillError};
 use std::test::Fail;
 
-/// The faults of a line, by their numbers, from 1 on.
+/// The faults of a line, by their numbers from 1.
 const LINE_FAULTS: &[LineFault] = &[
     LineFault::NoCores,
     LineFault::Form,
@@ -29,12 +29,12 @@ const FAULTS: &[(SimFault, u8, &str)] = &[
     (SimFault::Failed, 7, "mcssim: run failed"),
 ];
 
-/// Whether a fault has this status and this text.
+/// Returns whether a fault has this status and this text.
 fn is_reported(alloc: Global, fault: SimFault, status: u8, text: &str) -> Result<bool, Fail> {
     Ok(fault.status() == status && fault.to_string(alloc)?.as_str() == text)
 }
 
-/// Whether a fault of a line has this number, and is told by it.
+/// Returns whether a fault of a line has this number, and is reported with it.
 fn is_numbered(alloc: Global, why: LineFault, number: usize) -> Result<bool, Fail> {
     for line in [1, 37, 2_000_001] {
         let text = format!(in alloc; "mcssim: line {line}: fault {number}")?;
@@ -88,7 +88,7 @@ impl<'a> Env for Given<'a> {
     }
 }
 
-/// Whether these two arguments are words, of which the second asks for a replay.
+/// Returns whether these two arguments are words, of which the second asks for a replay.
 fn asks_replay(alloc: Global, given: &[&[u8]]) -> Result<bool, SimFault> {
     match arguments(&(Given { arguments: given }, alloc)) {
         Ok(words) => Ok(words.len() == 2 && words[1].as_str() == "replay"),
@@ -103,8 +103,8 @@ fn an_argument_that_is_no_text_is_a_fault(rt: HostRuntime) {
     assert!(rt; told == Err(SimFault::Argument));
 }
 
-/// Command lines, and what comes of them: a command, with a number of cores, with `explain`, and
-/// with the file that is read behind `<`; or an answer with this status that has this text.
+/// Command lines, and their results: a command, with a number of cores, with `explain`, and with
+/// the file after `<`; or an error or help with this status and text.
 const LINES: &str = "\
 mcssim replay = replay
 mcssim replay -- = replay
@@ -150,7 +150,7 @@ mcssim run --cores 2 --cores 2 = 1
 mcssim run a.mcs --cores 2 b.mcs = 1 unexpected argument 'b.mcs' found
 ";
 
-/// Whether a text is said. The version is all that is said of it.
+/// Returns whether a text contains a part; for the version the part is all of it.
 fn is_said(text: &str, part: &str) -> bool {
     if part == "mcssim 0.1.0" {
         text == "mcssim 0.1.0\n"
@@ -159,7 +159,7 @@ fn is_said(text: &str, part: &str) -> bool {
     }
 }
 
-/// The task of which the table tells.
+/// Returns the task that the table names.
 fn task(told: &str) -> Option<Task> {
     if told == "replay" {
         return Some(Task::Replay);
@@ -168,7 +168,7 @@ fn task(told: &str) -> Option<Task> {
     Some(Task::Run { cores })
 }
 
-/// Whether options are those of which the table tells.
+/// Returns whether options are those that the table names.
 fn is_asked(asked: &Options<'_>, want: &str) -> bool {
     let (told, file) = match want.split_once(" < ") {
         Some((told, file)) => (told, Some(file)),
@@ -181,7 +181,7 @@ fn is_asked(asked: &Options<'_>, want: &str) -> bool {
     task(told) == Some(asked.task) && asked.file == file && asked.explain == explain
 }
 
-/// Whether this comes of a command line.
+/// Returns whether a command line has this result.
 fn comes(alloc: Global, words: &[&str], want: &str) -> Result<bool, Fail> {
     let answer = match options(alloc, words) {
         Ok(asked) => return Ok(is_asked(&asked, want)),
@@ -193,7 +193,7 @@ fn comes(alloc: Global, words: &[&str], want: &str) -> Result<bool, Fail> {
     Ok(answer_status(&answer) == status && is_said(text.as_str(), rest))
 }
 
-/// Whether a line holds.
+/// Returns whether a line holds.
 fn is_answered(alloc: Global, line: &str) -> Result<bool, Fail> {
     let Some((given, want)) = line.split_once(" = ") else {
         return Ok(false);

@@ -4,8 +4,8 @@ use mcs_text::LineFault;
 use std::alloc::Global;
 use std::test::Fail;
 
-/// Pieces of a script, how often each is taken, and the fault of a line that ends the script then,
-/// if one does: it stays.
+/// A piece of a script, how often it is fed without a fault, and the line and fault that it gives
+/// if it is then fed once more; None if it is not.
 type Fed = (&'static [u8], u32, Option<(u64, LineFault)>);
 
 /// A line to which no form fits.
@@ -21,7 +21,8 @@ const LONG: &[Fed] = &[
     (b"x", 0, Some((1, LineFault::LongLine))),
 ];
 
-/// Returns whether a piece is taken so often and then ends the script so, and no book is begun.
+/// Feeds a piece this often, and once more if that gives a fault. Returns whether all went so, and
+/// the run has no book.
 fn is_fed(alloc: Global, run: &mut ReplayRun, (piece, count, fault): Fed) -> bool {
     for _ in 0..count {
         if run.feed(alloc, piece).is_err() {

@@ -14,8 +14,8 @@ const FIRST_STEPS: &str = "\
 0 t2 recv 2 8
 ";
 
-/// What is wrong with a script of the first example that ends in this beginning of one of its
-/// lines, if anything is.
+/// Returns what is wrong with a script of the first example that ends within one of its lines, if
+/// anything.
 fn cut_fault(number: u64, beginning: &str) -> Option<LineFault> {
     let is_whole = beginning.is_empty() || BOOT.lines().any(|line| line == beginning);
     let is_step = FIRST_STEPS.lines().any(|line| line == beginning);
@@ -30,7 +30,7 @@ fn cut_fault(number: u64, beginning: &str) -> Option<LineFault> {
     }
 }
 
-/// Returns what a script gives that is cut after so many bytes.
+/// Returns the result of a script that is cut after this many bytes.
 fn cut(script: &str, end: usize) -> Result<(), SimFault> {
     let mut line: u64 = 1;
     let mut start: usize = 0;
@@ -56,10 +56,10 @@ fn a_script_cut_anywhere_is_read_or_faulty(rt: HostRuntime) -> Result<(), Fail> 
     Ok(())
 }
 
-/// A text, so many pieces behind it, and an end.
+/// A text, this many pieces after it, and an end.
 type Parts = (&'static str, &'static str, u32, &'static str);
 
-/// Such scripts of steps, and what is wrong at which line, if anything is.
+/// Such scripts of steps, and the line and fault, if any.
 const LONG_SCRIPTS: &[(Parts, Option<(u64, LineFault)>)] = &[
     (("cores 1\n", "#", 4_096, "\nendpoint\n"), None),
     (
@@ -82,8 +82,8 @@ const LONG_SCRIPTS: &[(Parts, Option<(u64, LineFault)>)] = &[
     ),
 ];
 
-/// The same of scripts that are tried as those of users besides: the line behind the boot is as
-/// long as one may be, or longer.
+/// Such scripts that are also tried as scripts of users: the line after the boot is as long as
+/// allowed, or longer.
 const LONG_LINES: &[(Parts, Option<(u64, LineFault)>)] = &[
     ((BOOT, "#", 4_096, ""), None),
     ((BOOT, "#", 4_096, "\n"), None),
@@ -96,7 +96,7 @@ const LONG_LINES: &[(Parts, Option<(u64, LineFault)>)] = &[
     ),
 ];
 
-/// Whether what is given is this, and something is written just where it ends well.
+/// Returns whether this is the result, and something was written exactly if it is a success.
 fn is_end(
     (ended, written): (Result<(), SimFault>, Vec<u8>),
     fault: Option<(u64, LineFault)>,
@@ -119,7 +119,7 @@ fn long_scripts_are_read_or_faulty(rt: HostRuntime) -> Result<(), Fail> {
     Ok(())
 }
 
-/// Whether a run of users ends so.
+/// Returns whether a run of users ends so.
 fn is_run<R: AllocGlobal + Threads + Wait + Sync>(
     rt: &R,
     (parts, fault): (Parts, Option<(u64, LineFault)>),
@@ -136,12 +136,12 @@ fn a_line_has_4096_bytes_at_most(rt: HostRuntime) -> Result<(), Fail> {
     Ok(())
 }
 
-/// A step that is refused, and what the trace has for it.
+/// A step that is refused, and its trace.
 const REFUSED: &str = "0 t1 recv 1 8\n";
 
 const TOLD: &str = "0 t1 recv 1 8\n= refused 5\n";
 
-/// Whether a script ends so and writes this, or a beginning of it where it ends by a fault.
+/// Returns whether a script ends so and writes this, or a prefix of it after a fault.
 fn writes(alloc: Global, script: &[u8], want: &[u8], end: Result<(), SimFault>) -> bool {
     let (result, written) = run(alloc, script);
     let is_written = match end {

@@ -1,4 +1,4 @@
-//! Scripts of users, and lines that have no end: a fault is reported when it was read.
+//! Scripts of users, and endless lines: a fault is reported as soon as it is read.
 use crate::tests::streams::{Output, pipe, pipe_users};
 use crate::tests::texts::{BOOT, NONE, byte, numbers, repeated};
 use mcs_sim::{Open, SimFault, Source};
@@ -8,7 +8,7 @@ use std::sync::Wait;
 use std::test::Fail;
 use std::thread::Threads;
 
-/// Gives a text, a line with each read, and then one letter for ever; it counts the reads.
+/// A reader of a text, a line with each read, and then of one letter for ever; it counts the reads.
 #[derive(Drop)]
 struct Endless<'a> {
     text: &'a [u8],
@@ -31,8 +31,8 @@ impl<'a> Read for Endless<'a> {
     }
 }
 
-/// Whether a text before a line that has no end, as one of users or of steps, ends by the fault of
-/// this number at this line, behind so many reads, and writes nothing.
+/// Returns whether a text followed by an endless line ends, as a script of users and of steps, with
+/// this fault at this line, after this many reads, and writes nothing.
 fn ends<R: AllocGlobal + Threads + Wait + Sync>(
     rt: &R,
     text: &[u8],
@@ -59,8 +59,8 @@ fn ends<R: AllocGlobal + Threads + Wait + Sync>(
     is_told && output.taken.is_empty() && input.reads == reads
 }
 
-/// Texts, the number of the line that has no end, and how many reads come to its 4,097th byte: one
-/// for each line of the text, of which the boot has 36, and two of 4,096 bytes.
+/// Texts, the number of the endless line, and the number of reads up to its 4,097th byte: one for
+/// each line of the text, of which the boot has 36, and two of 4,096 bytes.
 const ENDLESS: &[(&str, u32, u32)] = &[("", 1, 2), ("cores 1\n", 2, 3), (BOOT, 37, 38)];
 
 #[test]
@@ -75,8 +75,8 @@ fn an_endless_line_is_told_at_its_4097th_byte(rt: HostRuntime) {
     }
 }
 
-/// At which line a script of users is faulty, the number of the fault, and how many cores are asked
-/// for; then the lines behind the boot, each with a `;` at its end.
+/// The faulty line of a script of users, its fault, and the number of cores asked for; then the
+/// lines after the boot, each ended by `;`.
 const FAULTS: &str = "\
 1 3 2: #;
 37 2 -: nonsense;
@@ -95,7 +95,7 @@ const FAULTS: &str = "\
 39 3 -: #;;user t1 setprio 11 11 256;
 ";
 
-/// Whether the lines of a row end a run by its fault when so many lines were read.
+/// Returns whether the lines of a row end a run with its fault after this many lines were read.
 fn is_faulty<R: AllocGlobal + Threads + Wait + Sync>(rt: &R, row: &str) -> Result<bool, Fail> {
     let Some((head, lines)) = row.split_once(": ") else {
         return Ok(false);

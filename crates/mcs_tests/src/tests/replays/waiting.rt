@@ -1,4 +1,4 @@
-//! Who writes steps and waits for what they give before writing more.
+//! A writer of steps that waits for their results before it writes more.
 use crate::tests::texts::{BOOT, add_pieces};
 use mcs_sim::{Sink, Source, simulate};
 use std::alloc::Global;
@@ -6,7 +6,7 @@ use std::cell::Cell;
 use std::io::{self, Read, Write};
 use std::test::Fail;
 
-/// A step that nobody receives, and what the trace has for it.
+/// A step without a receiver, and its trace.
 const STEP: &str = "0 t1 nbsend 1 7\n";
 
 const TOLD: &str = "0 t1 nbsend 1 7\n= done\n";
@@ -14,8 +14,8 @@ const TOLD: &str = "0 t1 nbsend 1 7\n= done\n";
 /// How many pieces of steps follow the one with the boot.
 const ROUNDS: usize = 3;
 
-/// How many bytes are written before the read of this number: nothing, then the boot and the answer
-/// to its step, then those to the steps of one piece more.
+/// Returns how many bytes are written before this read: nothing, then the boot and the first
+/// answer, then the answers of one piece more each.
 fn wanted(piece: usize, reads: usize) -> usize {
     if reads == 0 {
         return 0;
@@ -43,8 +43,8 @@ impl<'a> Write for Counting<'a> {
     }
 }
 
-/// Gives a text in pieces of so many bytes, and counts them, and before how many of them as many
-/// bytes were written as it waits for.
+/// A reader of a text in pieces of this many bytes. It counts the pieces, and before how many of
+/// them the bytes that it waits for were written.
 #[derive(Drop)]
 struct Waiting<'a> {
     text: &'a [u8],
@@ -71,7 +71,7 @@ impl<'a> Read for Waiting<'a> {
     }
 }
 
-/// A piece of so many bytes with the boot and one step, and then pieces of steps alone, of so many
+/// Returns a piece of this many bytes with the boot and one step, and then pieces with this many
 /// steps each.
 fn script_of(alloc: Global, piece: u32, steps: u32) -> Result<Vec<u8>, Fail> {
     let mut script = Vec::from_slice(alloc, BOOT.as_bytes())?;
@@ -85,8 +85,8 @@ fn script_of(alloc: Global, piece: u32, steps: u32) -> Result<Vec<u8>, Fail> {
     Ok(script)
 }
 
-/// Before how many pieces of so many bytes all was written, while a script is replayed; None where
-/// it has a fault.
+/// Returns before how many pieces of this many bytes all was written while a script is replayed;
+/// None if it has a fault.
 fn answered(alloc: Global, script: &[u8], piece: usize) -> Option<usize> {
     let written = Cell::new(0);
     let answered = Cell::new(0);
@@ -103,7 +103,7 @@ fn answered(alloc: Global, script: &[u8], piece: usize) -> Option<usize> {
     Some(answered.get())
 }
 
-/// Sizes of pieces, and how many steps one has.
+/// Sizes of pieces, and the number of steps in one.
 const PIECES: &[(u32, u32)] = &[(4_096, 256), (8_192, 512), (16_384, 1_024), (65_536, 4_096)];
 
 #[test]

@@ -5,10 +5,10 @@ use mcs_types::{Ending, Kind, OBJECTS, ObjId};
 use std::alloc::Global;
 use std::test::Fail;
 
-/// How many calls the links and the list are given.
+/// How many calls the linked chains and the plain list get.
 const CALLS: u32 = 10_000;
 
-/// A debt: who is owed, by whom, and in the chain of which context.
+/// A debt: the caller, the reply object, and the context in whose chain it is.
 #[derive(Clone, Copy)]
 struct Debt {
     reply: ObjId,
@@ -16,7 +16,7 @@ struct Debt {
     context: Option<ObjId>,
 }
 
-/// One of 256 contexts. The serials of the last 64 are those of the first 64 and 256 more.
+/// Returns one of 256 contexts. The serials of the last 64 are those of the first 64 plus 256.
 fn context(number: u32) -> ObjId {
     let number = number % 256;
     let serial = if number < 192 {
@@ -27,8 +27,8 @@ fn context(number: u32) -> ObjId {
     object(Kind::Context, serial)
 }
 
-/// A call on reply objects, which are named by their numbers in a list, or by none where they are
-/// not there.
+/// A call on reply objects, which are named by their indices in a list; None is one that does not
+/// exist.
 #[derive(Clone, Copy)]
 enum Call {
     Owe(Debt),
@@ -36,19 +36,18 @@ enum Call {
     Void(ObjId, Ending),
     /// The chain of a context is emptied.
     Drop(ObjId),
-    /// A new reply object comes in the place of one that owes nobody.
+    /// A new reply object replaces one that owes none.
     Renew(usize),
 }
 
-/// What the links are compared with: the debts of 256 reply objects in the order in which they
-/// came.
+/// The model with which the links are compared: the debts of 256 reply objects, oldest first.
 #[derive(Drop)]
 struct Plain {
     replies: Vec<ObjId>,
     debts: Vec<Debt>,
 }
 
-/// Takes those of the oldest debts that are in the chain of a context out of it.
+/// Removes those of the oldest debts that are in the chain of a context from the chain.
 fn unlink(debts: &mut [Debt], context: ObjId) {
     for debt in debts.iter_mut() {
         if debt.context == Some(context) {
@@ -58,7 +57,7 @@ fn unlink(debts: &mut [Debt], context: ObjId) {
 }
 
 impl Plain {
-    /// Makes 256 reply objects, which owe nobody.
+    /// Makes 256 reply objects that owe none.
     fn new(alloc: Global, replies: &mut Replies) -> Result<Plain, Fail> {
         let mut made = Vec::new(alloc);
         for _ in 0..OBJECTS {
@@ -73,7 +72,7 @@ impl Plain {
         })
     }
 
-    /// The reply object of a number; one that is not there where the number is too great.
+    /// Returns the reply object at an index; one that does not exist if the index is too large.
     fn reply(&self, number: usize) -> ObjId {
         match self.replies.get(number) {
             Some(reply) => *reply,
@@ -81,7 +80,7 @@ impl Plain {
         }
     }
 
-    /// Whether a reply object owes a caller.
+    /// Returns whether a reply object owes a caller.
     fn owes(&self, reply: ObjId) -> bool {
         self.debts.iter().any(|debt| debt.reply.is_same(reply))
     }
@@ -96,14 +95,14 @@ impl Plain {
         None
     }
 
-    /// Adds a debt, unless its reply object owes already or is not there.
+    /// Adds a debt, unless its reply object owes already or does not exist.
     fn owe(&mut self, debt: Debt) -> bool {
         let is_there = self.replies.iter().any(|reply| reply.is_same(debt.reply));
         is_there && !self.owes(debt.reply) && self.debts.push(debt).is_ok()
     }
 
-    /// Returns what a debt leaves that was in the chain of this context, of which so many debts are
-    /// older.
+    /// Ends a debt in the chain of this context, with `older` debts before it, and returns what it
+    /// leaves.
     fn leave(&mut self, context: ObjId, older: usize, how: Ending) -> Option<ObjId> {
         let middle = older.min(self.debts.len());
         let (below, above) = self.debts.split_at_mut(middle);
@@ -131,16 +130,16 @@ impl Plain {
         })
     }
 
-    /// Gives a number another reply object.
+    /// Replaces the reply object at an index.
     fn put(&mut self, number: usize, reply: ObjId) {
         if let Some(place) = self.replies.get_mut(number) {
             *place = reply;
         }
     }
 
-    /// The call that a number stands for. One chain in a thousand calls grows long, and in the next
-    /// thousand there are many. One ending in four is of any reply object, the others are at the
-    /// top.
+    /// Returns the call for a random number. One chain in a thousand calls grows long, and in the
+    /// next thousand there are many chains. One ending in four is of any reply object, the others
+    /// are at the top.
     fn call(&self, call: u32, n: u64) -> Call {
         let many = if call / 1_000 % 2 == 0 { 1 } else { 256 };
         let context = context((n >> 36) as u32 % many);
@@ -165,7 +164,7 @@ impl Plain {
         }
     }
 
-    /// Whether the chain of a context is the same, and its top.
+    /// Returns whether the chain of a context and its top agree.
     fn agrees(&self, replies: &Replies, context: ObjId) -> bool {
         let mut chain = replies.chain_of(context);
         for debt in self.debts.iter().rev() {
@@ -177,8 +176,8 @@ impl Plain {
     }
 }
 
-/// Puts a new reply object in the place of one that owes nobody, where there is room. Whether the
-/// links and the list say the same of what it owes.
+/// Replaces a reply object that owes none with a new one, if there is room. Returns whether the
+/// links and the list agree about its debt.
 fn renew(replies: &mut Replies, plain: &mut Plain, number: usize) -> bool {
     let reply = plain.reply(number);
     if replies.receiver(reply).is_none()
@@ -195,7 +194,7 @@ fn renew(replies: &mut Replies, plain: &mut Plain, number: usize) -> bool {
 }
 
 impl Call {
-    /// Returns whether the links and the list give it the same answer.
+    /// Returns whether the links and the list give the call the same result.
     fn is_same(self, replies: &mut Replies, plain: &mut Plain) -> bool {
         match self {
             Call::Owe(debt) => {

@@ -6,12 +6,12 @@ use mcs_contexts::Contexts;
 use mcs_types::{CoreId, Kind, ObjId, Refusal};
 use std::test::Fail;
 
-/// Adds a context where there is room. Whether its serial is this.
+/// Adds a context if there is room. Returns whether it has this serial.
 fn add_context(contexts: &mut Contexts, core: u8, serial: u32) -> bool {
     !contexts.rows().is_full() && contexts.add(CoreId(core)) == context(serial)
 }
 
-/// Closes a context that nobody holds and that is homed nowhere. Whether it was one.
+/// Closes a context that no thread holds and that is homed nowhere. Returns whether it was one.
 fn close_context(contexts: &mut Contexts, id: ObjId) -> bool {
     if contexts.holder(id).is_some() || contexts.home_of(id).is_some() {
         return false;
@@ -23,8 +23,8 @@ fn close_context(contexts: &mut Contexts, id: ObjId) -> bool {
     true
 }
 
-/// Gives a context that is there to a thread that may hold it and holds none, or to nobody. Whether
-/// it is given.
+/// Gives an existing context to a thread that may hold it and holds none, or to no thread. Returns
+/// whether it did.
 fn give_context(contexts: &mut Contexts, id: ObjId, serial: u32) -> bool {
     if contexts.core(id).is_none() {
         return false;
@@ -44,7 +44,7 @@ fn give_context(contexts: &mut Contexts, id: ObjId, serial: u32) -> bool {
     true
 }
 
-/// Returns whether a call is done, or what refuses it.
+/// Returns whether a call is done, or its refusal.
 fn on(contexts: &mut Contexts, call: &str, one: u32, two: u32) -> Result<bool, Refusal> {
     match call {
         "add" => Ok(add_context(contexts, byte(one), two)),
@@ -59,7 +59,7 @@ fn on(contexts: &mut Contexts, call: &str, one: u32, two: u32) -> Result<bool, R
     }
 }
 
-/// Whether this is kept of a context: its core, its holder and its home; and it of its holder.
+/// Returns whether a context has this core, holder and home, and its holder has the context.
 fn is_kept(contexts: &Contexts, serial: u32, kept: [u32; 3]) -> bool {
     let id = context(serial);
     let Some(core) = contexts.core(id) else {
@@ -76,11 +76,11 @@ fn is_kept(contexts: &Contexts, serial: u32, kept: [u32; 3]) -> bool {
         && contexts.home_of(id) == named(Kind::Notification, kept[2])
 }
 
-/// Calls, their answers, and what is then kept of the first two contexts: the core, the holder, the
-/// home. One of a core is made, of this serial; one is bound to a thread, unbound, homed at a
-/// notification, let go from there, woken for a thread, given to a thread or to nobody, closed; or
-/// that of a thread is lent to another. It is not woken where it is held, its thread holds one, or
-/// there is no such thread.
+/// Calls, their results, and then the core, the holder and the home of the first two contexts. A
+/// context of a core is made, with this serial; bound to a thread, unbound, homed at a
+/// notification, unhomed, woken for a thread, given to a thread or to none, closed; or that of a
+/// thread is lent to another. It is not woken if it is held, its thread holds one, or there is no
+/// such thread.
 const CALLS: &str = "\
 home 1 1 = missing - - - - - -
 wake 1 1 = not - - - - - -
@@ -121,7 +121,7 @@ close 2 = done - - - - - -
 unbind 2 = free - - - - - -
 ";
 
-/// Returns whether the call of a line has its answer, and this is kept then.
+/// Returns whether the call of a line has its result, and the table agrees with it afterwards.
 fn is_row(contexts: &mut Contexts, line: &str) -> bool {
     let Some(row) = row_of(line) else {
         return false;

@@ -1,5 +1,5 @@
-//! Lookup in capability spaces, from roots that no boot makes. Others stand in `data/kernel` of
-//! `mcs_test_examples`.
+//! Lookup in capability spaces, from roots that no boot makes. Other lookups are in `data/kernel`
+//! of `mcs_test_examples`.
 use super::names::slot;
 use mcs_cspace::lookup_slot;
 use mcs_slots::{Slots, Tallied};
@@ -13,7 +13,7 @@ fn any_root_may_be_given(rt: HostRuntime) -> Result<(), Fail> {
     let found = [
         // of a guard's value its low bits count, here 10
         (1, (2, 0b11_10), (0b10_0111, 6), slot(1, 7)),
-        // a CNode that is not there has a radix of 0, and no slot
+        // a missing CNode has radix 0 and no slot
         (9, (1, 1), (1, 1), slot(9, 0)),
     ];
     for (cnode, (bits, value), (index, depth), want) in found {

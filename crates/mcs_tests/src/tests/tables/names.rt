@@ -30,7 +30,7 @@ pub fn slot(cnode: u32, index: u8) -> SlotId {
     }
 }
 
-/// The next of a fixed list of numbers.
+/// Returns the next number of a fixed pseudo-random sequence.
 pub fn next_number(n: u64) -> u64 {
     n.wrapping_mul(6_364_136_223_846_793_005)
         .wrapping_add(1_442_695_040_888_963_407)

@@ -6,7 +6,8 @@ use mcs_notifications::Notifications;
 use mcs_types::{Badge, Kind, ObjId};
 use std::test::Fail;
 
-/// Closes a notification that is bound to nobody and home to no context. Whether it was one.
+/// Closes a notification that is bound to no thread and home to no context. Returns whether it was
+/// one.
 fn close(notifications: &mut Notifications, id: ObjId) -> bool {
     if notifications.bound(id).is_some() || notifications.homed(id).is_some() {
         return false;
@@ -18,7 +19,7 @@ fn close(notifications: &mut Notifications, id: ObjId) -> bool {
     true
 }
 
-/// Changes a notification that is there. Whether it is.
+/// Changes an existing notification. Returns whether it exists.
 fn change(notifications: &mut Notifications, call: &str, id: ObjId, number: u32) -> bool {
     if !notifications.is_there(id) {
         return false;
@@ -32,7 +33,7 @@ fn change(notifications: &mut Notifications, call: &str, id: ObjId, number: u32)
     true
 }
 
-/// The word that is written so.
+/// Returns the word for a number; NONE stands for none.
 fn word_of(number: u32) -> Option<u64> {
     if number == NONE {
         None
@@ -41,7 +42,7 @@ fn word_of(number: u32) -> Option<u64> {
     }
 }
 
-/// Returns whether a call is done, and as its numbers say.
+/// Returns whether a call is done, with the result that its numbers say.
 fn is_done(notifications: &mut Notifications, call: &str, id: ObjId, number: u32) -> bool {
     match call {
         "add" => !notifications.rows().is_full() && notifications.add() == id,
@@ -51,7 +52,7 @@ fn is_done(notifications: &mut Notifications, call: &str, id: ObjId, number: u32
     }
 }
 
-/// Whether this word is kept of a notification, it is bound to this thread, and home to this
+/// Returns whether a notification has this word, is bound to this thread, and is home to this
 /// context.
 fn is_kept(notifications: &Notifications, serial: u32, kept: [u32; 3]) -> bool {
     let id = notification(serial);
@@ -60,9 +61,9 @@ fn is_kept(notifications: &Notifications, serial: u32, kept: [u32; 3]) -> bool {
         && notifications.homed(id) == named(Kind::Context, kept[2])
 }
 
-/// Calls, whether they are done, and what is then kept of the first two notifications: the word,
-/// the thread, the context. One is made, of this serial; a word is raised, and taken if there is
-/// one; one is bound to a thread, is home to a context, or is closed.
+/// Calls, whether they are done, and then the word, the thread and the context of the first two
+/// notifications. A notification is made, with this serial; a word is raised, or taken; it is bound
+/// to a thread, is home to a context, or is closed.
 const CALLS: &str = "\
 home 1 9 = not - - - - - -
 add 1 = done - - - - - -
@@ -89,7 +90,7 @@ close 2 = done - - - - - -
 add 3 = done - - - - - -
 ";
 
-/// Returns whether the call of a line is done or not, and this is kept then.
+/// Returns whether the call of a line is done or not, and the table agrees with it afterwards.
 fn is_row(notifications: &mut Notifications, line: &str) -> bool {
     let Some(row) = row_of(line) else {
         return false;

@@ -9,7 +9,7 @@ fn endpoint(serial: u32) -> ObjId {
     object(Kind::Endpoint, serial)
 }
 
-/// A store with room for two, which is full.
+/// Returns a full store with room for two.
 fn two(alloc: Global) -> Result<Store<u64>, OutOfMemory> {
     let mut store = Store::with_room(alloc, Kind::Endpoint, 2)?;
     for value in [10, 20] {
@@ -23,7 +23,7 @@ fn two(alloc: Global) -> Result<Store<u64>, OutOfMemory> {
 /// A call on a store; objects are named by their serials.
 #[derive(Clone, Copy)]
 enum Call {
-    /// A value is made an object of this serial, or handed back.
+    /// Adds a value: it becomes an object with this serial, or is handed back.
     Make(u64, Option<u32>),
     Write(u32, u64),
     Remove(u32, Option<u64>),
@@ -48,7 +48,7 @@ fn write(store: &mut Store<u64>, serial: u32, value: u64) -> bool {
 }
 
 impl Call {
-    /// Returns whether the call answers as it says.
+    /// Returns whether the call has the result that it names.
     fn answers(self, store: &mut Store<u64>) -> bool {
         match self {
             Call::Make(value, made) => make(store, value, made),
@@ -61,7 +61,7 @@ impl Call {
 /// The value and the place of an object.
 type Kept = Option<(u64, u16)>;
 
-/// What is kept of an object, where the same value is found by the place.
+/// Returns the value and the place of an object; the place must lead to the same value.
 fn kept(store: &Store<u64>, serial: u32) -> Kept {
     let id = endpoint(serial);
     let place = store.place(id)?;
@@ -73,8 +73,8 @@ fn kept(store: &Store<u64>, serial: u32) -> Kept {
     }
 }
 
-/// Calls on the full store, the values and places of the first three objects after each, how many
-/// were made and are there.
+/// Calls on the full store; after each, the values and places of the first three objects, and how
+/// many were made and exist.
 const CALLS: &[(Call, (Kept, Kept, Kept), (u32, usize))] = &[
     (
         Call::Write(2, 21),
@@ -92,7 +92,7 @@ const CALLS: &[(Call, (Kept, Kept, Kept), (u32, usize))] = &[
         (2, 1),
     ),
     (Call::Remove(1, None), (None, Some((21, 1)), None), (2, 1)),
-    // The place comes again and the serial does not.
+    // The place is reused, and the serial is not.
     (
         Call::Make(30, Some(3)),
         (None, Some((21, 1)), Some((30, 0))),

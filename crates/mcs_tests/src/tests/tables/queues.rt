@@ -8,7 +8,7 @@ use std::marker::Brand;
 use std::sync::ledger::{Blank, Ledger};
 use std::test::Fail;
 
-/// How many calls both bodies are given.
+/// How many calls both implementations get.
 const CALLS: u32 = 10_000;
 
 /// How many threads and lines they have room for. Some calls name others.
@@ -26,8 +26,8 @@ enum Call {
 }
 
 impl Call {
-    /// The call that a number stands for. Three of four calls name one of three lines, so that
-    /// lines are long.
+    /// Returns the call for a random number. Three of four calls name one of three lines, so that
+    /// lines get long.
     fn numbered(n: u64) -> Call {
         let t = ThreadNo(((n >> 20) % (THREADS as u64 + 2)) as u16);
         let lines = if (n >> 60) % 4 == 0 {
@@ -45,7 +45,7 @@ impl Call {
         }
     }
 
-    /// Returns whether it changed something, and the line that is answered.
+    /// Returns whether the call changed something, and the line that it returned.
     fn on<L: Lines>(self, lines: &mut L) -> (bool, Option<LineNo>) {
         match self {
             Call::Join(t, q, p) => (lines.join(t, q, p), None),
@@ -56,7 +56,7 @@ impl Call {
     }
 }
 
-/// Whether a line has the same threads in the same order.
+/// Returns whether a line has the same threads in the same order in both.
 fn has_same_threads<A: Lines, B: Lines>(a: &A, b: &B, line: LineNo) -> bool {
     let mut x = a.first(line);
     let mut y = b.first(line);
@@ -73,7 +73,7 @@ fn has_same_threads<A: Lines, B: Lines>(a: &A, b: &B, line: LineNo) -> bool {
     false
 }
 
-/// Returns whether both give the same answer to a call, and then have the same threads in all
+/// Returns whether both give the same result for a call, and then have the same threads in all
 /// lines.
 fn agree<A: Lines, B: Lines>(a: &mut A, b: &mut B, call: Call) -> bool {
     if call.on(a) != call.on(b) {
@@ -110,12 +110,12 @@ const C: ThreadNo = ThreadNo(2);
 
 const Q: LineNo = LineNo(1);
 
-/// Calls on lines for three threads, their answers, and who then stands in the second line.
+/// Calls on lines for three threads, their results, and the threads of the second line afterwards.
 const ANSWERS: &[(Call, (bool, Option<LineNo>), &[ThreadNo])] = &[
     (Call::Join(A, Q, Prio(5)), (true, None), &[A]),
     (Call::Join(B, Q, Prio(9)), (true, None), &[B, A]),
     (Call::Join(C, Q, Prio(5)), (true, None), &[B, A, C]),
-    // It stands in a line.
+    // The thread is in a line.
     (Call::Join(C, LineNo(0), Prio(5)), (false, None), &[B, A, C]),
     (Call::Shift(A, Prio(5)), (true, None), &[B, C, A]),
     (Call::Part(B), (true, Some(Q)), &[C, A]),
@@ -123,7 +123,7 @@ const ANSWERS: &[(Call, (bool, Option<LineNo>), &[ThreadNo])] = &[
     (Call::WhereIs(A), (false, Some(Q)), &[C, A]),
 ];
 
-/// Whether these threads stand in a line, from the first.
+/// Returns whether a line has exactly these threads, first to last.
 fn is_line<L: Lines>(lines: &L, line: LineNo, threads: &[ThreadNo]) -> bool {
     let mut next = lines.first(line);
     for thread in threads {
@@ -146,8 +146,8 @@ fn plain_lines_answer(rt: HostRuntime) -> Result<(), Fail> {
     Ok(())
 }
 
-/// Returns whether two threads join a line, and the first goes behind the second, with visits that
-/// are counted.
+/// Returns whether two threads join a line, and the first moves after the second, with counted
+/// visits.
 fn move_counted<G: Ledger>(lines: &mut LinkedLines, blank: Blank) -> bool
     requires name { blank.name ≡ G.name }
     requires parts { blank.parts ≡ G.parts }

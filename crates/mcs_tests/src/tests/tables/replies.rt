@@ -6,7 +6,7 @@ use mcs_replies::{Ended, Replies};
 use mcs_types::{Ending, Kind, ObjId};
 use std::test::Fail;
 
-/// The debt of a caller, which is ended and topped the chain of a context, or none.
+/// Returns the debt of a caller that ended, and topped the chain of a context or none.
 fn ended(caller: u32, topped: u32) -> Option<Ended> {
     Some(Ended {
         caller: thread(caller),
@@ -14,7 +14,7 @@ fn ended(caller: u32, topped: u32) -> Option<Ended> {
     })
 }
 
-/// Has a receiver stand with a reply object, or none. Whether it is there.
+/// Sets or clears the receiver of a reply object. Returns whether the object exists.
 fn stand(replies: &mut Replies, id: ObjId, receiver: Option<ObjId>) -> bool {
     if !replies.is_there(id) {
         return false;
@@ -23,7 +23,7 @@ fn stand(replies: &mut Replies, id: ObjId, receiver: Option<ObjId>) -> bool {
     replies.receiver(id) == receiver && replies.user(id) == replies.owed(id).or(receiver)
 }
 
-/// Closes a reply object that nobody uses. Whether it was one.
+/// Closes a reply object without a user. Returns whether it was one.
 fn close(replies: &mut Replies, id: ObjId) -> bool {
     if replies.receiver(id).is_some() || replies.owed(id).is_some() {
         return false;
@@ -35,7 +35,7 @@ fn close(replies: &mut Replies, id: ObjId) -> bool {
     true
 }
 
-/// Returns whether a call is done, and as its numbers say.
+/// Returns whether a call is done, with the result that its numbers say.
 fn is_done(replies: &mut Replies, call: &str, serial: u32, given: (u32, u32)) -> bool {
     let (id, (one, two)) = (reply(serial), given);
     match call {
@@ -53,7 +53,7 @@ fn is_done(replies: &mut Replies, call: &str, serial: u32, given: (u32, u32)) ->
     }
 }
 
-/// Whether these stand in the chain of the first context, from the top.
+/// Returns whether the chain of the first context is this, from the top.
 fn is_chain(replies: &Replies, chain: &[u32]) -> bool {
     let mut links = replies.chain_of(context(1));
     for serial in chain {
@@ -64,7 +64,8 @@ fn is_chain(replies: &Replies, chain: &[u32]) -> bool {
     true
 }
 
-/// Whether these are whom the first three reply objects owe, and the chain of the first context.
+/// Returns whether these are the callers that the first three reply objects owe, and the chain of
+/// the first context.
 fn are_kept(replies: &Replies, kept: [u32; 12]) -> bool {
     replies.top_of(context(1)) == named(Kind::Reply, kept[3])
         && replies.owed(reply(1)) == named(Kind::Thread, kept[0])
@@ -73,11 +74,11 @@ fn are_kept(replies: &Replies, kept: [u32; 12]) -> bool {
         && is_chain(replies, &kept[3..])
 }
 
-/// Calls, whether they are done, whom the first three reply objects owe then, and the chain of the
-/// first context. Of this reply object: it is made; it owes a caller with a context; the debt of a
-/// caller is paid, void or cancelled, and topped the chain of a context; a receiver stands with it,
-/// or none; it is closed. Or the chain of this context is emptied. One on top is taken off, one
-/// below the top leaves with those below.
+/// Calls, whether they are done, then the callers that the first three reply objects owe, and the
+/// chain of the first context. A reply object is made; owes a caller with a context; is paid,
+/// deleted or cancelled, and topped the chain of a context; has a receiver or none; is closed. Or
+/// the chain of a context is emptied. One on top is taken off; one below the top leaves with those
+/// below.
 const CALLS: &str = "\
 add 1 = done - - -
 add 2 = done - - -
@@ -103,7 +104,7 @@ stand 2 - = done 1 - 3
 close 2 = done 1 - 3
 ";
 
-/// Returns whether the call of a line is done or not, and this is kept then.
+/// Returns whether the call of a line is done or not, and the table agrees with it afterwards.
 fn is_row(replies: &mut Replies, line: &str) -> bool {
     let Some(row) = row_of(line) else {
         return false;

@@ -3,7 +3,7 @@
 use crate::tests::texts::{NONE, numbers};
 use mcs_types::{Kind, ObjId, Refusal};
 
-/// A call, its numbers, the word of its answer, and the numbers of what is kept then.
+/// A call, its numbers, the word of its result, and the numbers of the table afterwards.
 pub type Row<'a> = (&'a str, [u32; 12], &'a str, [u32; 12]);
 
 /// The row of a line.
@@ -14,7 +14,7 @@ pub fn row_of(line: &str) -> Option<Row<'_>> {
     Some((call, numbers(given), answer, numbers(kept)))
 }
 
-/// What is done, where nothing refuses it.
+/// Returns true, or the refusal.
 pub fn done(answer: Result<(), Refusal>) -> Result<bool, Refusal> {
     match answer {
         Ok(()) => Ok(true),
@@ -22,7 +22,7 @@ pub fn done(answer: Result<(), Refusal>) -> Result<bool, Refusal> {
     }
 }
 
-/// The word of an answer.
+/// Returns the word for a result.
 pub fn word_of(answer: Result<bool, Refusal>) -> &'static str {
     match answer {
         Ok(true) => "done",

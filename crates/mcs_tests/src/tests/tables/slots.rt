@@ -6,7 +6,7 @@ use mcs_slots::{SlotId, Slots, Tallied};
 use mcs_types::{Badge, Cap, Guard, Kind, ObjId, Refusal, Rights};
 use std::test::Fail;
 
-/// The last slot of the first CNode, which has 8, and both of the second.
+/// The last slot of the first CNode, which has 8 slots, and both slots of the second.
 const A: SlotId = SlotId {
     cnode: ObjId {
         kind: Kind::CNode,
@@ -36,7 +36,7 @@ const FIRST: ObjId = ObjId {
     serial: 1,
 };
 
-/// An endpoint whose capabilities are counted beside those of the first.
+/// A second endpoint whose capabilities are counted.
 const SECOND: ObjId = ObjId {
     kind: Kind::Endpoint,
     serial: 8193,
@@ -47,8 +47,8 @@ const REPLY: ObjId = ObjId {
     serial: 1,
 };
 
-/// A capability without a guard, by the serial of an endpoint, or 0 for a reply object; the bits of
-/// its rights, and its badge. None where it is none.
+/// Returns a capability without a guard, to the endpoint with this serial, or to a reply object for
+/// 0, with these rights and this badge; None for NONE.
 fn cap_to(serial: u32, bits: u32, badge: u32) -> Option<Cap> {
     let obj = match serial {
         0 => REPLY,
@@ -73,7 +73,7 @@ fn slot_of(number: u32) -> SlotId {
     }
 }
 
-/// Copies with these rights, or mints with this badge, between slots that are there.
+/// Copies with these rights, or mints with this badge, between existing slots.
 fn copy(
     slots: &mut Slots,
     (source, dest): (SlotId, SlotId),
@@ -93,8 +93,8 @@ fn copy(
     })
 }
 
-/// Returns whether a call is done, or what refuses it. Slots come first, then what is put or taken,
-/// or the bits of rights and a badge.
+/// Returns whether a call is done, or its refusal. Its numbers are slots, then what is put or
+/// taken, or the bits of rights and a badge.
 fn on(slots: &mut Slots, call: &str, given: [u32; 12]) -> Result<bool, Refusal> {
     let (at, dest) = (slot_of(given[0]), slot_of(given[1]));
     let cap = cap_to(given[1], given[2], given[3]);
@@ -119,7 +119,7 @@ fn on(slots: &mut Slots, call: &str, given: [u32; 12]) -> Result<bool, Refusal> 
     }
 }
 
-/// Calls, their answers, what then the three slots hold, and how many capabilities to the two
+/// Calls, their results, then the contents of the three slots, and how many capabilities to the two
 /// endpoints there are. A capability of another kind is not minted, and the endpoints share a
 /// tally.
 const CALLS: &str = "\
@@ -146,7 +146,8 @@ empty 3 = done 8193 15 7 - - - - - - 0 1
 empty 1 = done - - - - - - - - - 0 0
 ";
 
-/// Whether the three slots hold these, and there are so many capabilities to the two endpoints.
+/// Returns whether the three slots hold these, and there are this many capabilities to the two
+/// endpoints.
 fn are_as(slots: &Slots, kept: [u32; 12]) -> bool {
     slots.get(A) == cap_to(kept[0], kept[1], kept[2])
         && slots.get(B) == cap_to(kept[3], kept[4], kept[5])
@@ -154,7 +155,7 @@ fn are_as(slots: &Slots, kept: [u32; 12]) -> bool {
         && [slots.count_of(FIRST), slots.count_of(SECOND)] == [kept[9], kept[10]]
 }
 
-/// Returns whether the call of a line has its answer, and the slots are as it says then.
+/// Returns whether the call of a line has its result, and the slots agree with it afterwards.
 fn is_row(slots: &mut Slots, line: &str) -> bool {
     let Some(row) = row_of(line) else {
         return false;
@@ -183,7 +184,7 @@ const RADICES: &[(Kind, u32, Option<u8>)] = &[
     (Kind::Thread, 1, None),
 ];
 
-/// Slots, and whether they are there in two CNodes of 8 and of 2.
+/// Slots, and whether they exist in two CNodes of 8 and of 2.
 const SLOTS: &[(u32, u8, bool)] = &[
     (1, 0, true),
     (1, 7, true),

@@ -34,7 +34,7 @@ const RECEIVES: Block = Block::Queued {
 
 const CALLS: Block = Block::OnReply { reply: OWN };
 
-/// Returns whether a thread is there, and so is changed.
+/// Returns whether a thread exists, and so is changed.
 fn is_done(threads: &mut Threads, call: &str, id: ObjId, number: u32) -> bool {
     let done = match call {
         "run" => threads.set_mode(id, Mode::Running),
@@ -51,7 +51,7 @@ fn is_done(threads: &mut Threads, call: &str, id: ObjId, number: u32) -> bool {
     done.is_some()
 }
 
-/// What a thread does, by its number in rows, and the queue in which it then stands.
+/// Returns the status for a number of a row, and the queue that the thread is then in.
 fn status_of(number: u32) -> (Status, Option<Queue>) {
     match number {
         1 => (Status::Running, None),
@@ -62,8 +62,8 @@ fn status_of(number: u32) -> (Status, Option<Queue>) {
     }
 }
 
-/// Whether this is kept of a thread: its priority, what it does, and the notification that is bound
-/// to it. One that stands in a queue receives with its own reply object and with no other.
+/// Returns whether a thread has this priority, status and notification. A queued one receives with
+/// its own reply object and with no other.
 fn is_kept(threads: &Threads, serial: u32, kept: [u32; 3]) -> bool {
     let Some(row) = threads.get(thread(serial)) else {
         return kept[0] == NONE;
@@ -77,7 +77,7 @@ fn is_kept(threads: &Threads, serial: u32, kept: [u32; 3]) -> bool {
         && !row.receives_with(reply(5))
 }
 
-/// Adds a thread where there is room. Whether it has this serial, and keeps what it was given.
+/// Adds a thread if there is room. Returns whether it has this serial, and keeps what it was given.
 fn is_added(threads: &mut Threads, serial: u32, maximum: u8, root: &Cap) -> bool {
     if threads.made() >= 256 {
         return false;
@@ -89,9 +89,8 @@ fn is_added(threads: &mut Threads, serial: u32, maximum: u8, root: &Cap) -> bool
     }
 }
 
-/// Changes of threads, whether they are done, and what is then kept of the first two: the priority,
-/// what it does (0 is inactive, 1 runs, 2 restarts, 3 receives, 4 is owed an answer), and the
-/// notification.
+/// Changes of threads, whether they are done, and then the priority, the status (0 inactive, 1
+/// running, 2 restart, 3 receiving, 4 owed a reply) and the notification of the first two.
 const CHANGES: &str = "\
 prio 1 5 = done 5 0 - 0 0 -
 run 1 = done 5 1 - 0 0 -
@@ -108,7 +107,7 @@ close 1 = not - - - 0 2 -
 untie 1 = not - - - 0 2 -
 ";
 
-/// Returns whether the change of a line is done or not, and this is kept then.
+/// Returns whether the change of a line is done or not, and the table agrees with it afterwards.
 fn is_changed(threads: &mut Threads, line: &str) -> bool {
     let Some(row) = row_of(line) else {
         return false;

@@ -11,7 +11,7 @@ use Rattle.mcs_state.specs.Now.{Now, so_far, adds}
 use Rattle.mcs_boots.proofs.Booting.{new-there, new-turns}
 use Rattle.mcs_boots.proofs.boot.taking.takes_thread.Goals as goal
 
--- the thread made after so many
+-- the thread made after this many
 abbrev next_thread : ℕ → ObjId
 next_thread n = record { kind = kind.Thread; serial = n + 1 }
 
