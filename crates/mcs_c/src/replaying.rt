@@ -54,9 +54,13 @@ fn ending(ended: Result<(), SimFault>, length: usize) -> (u32, McsEnd)
         Err(SimFault::Script { line, why }) => (2, line, u64::from(why.number())),
         Err(SimFault::BookFull) => (5, 0, 0),
         Err(SimFault::OutOfMemory) => (NO_MEMORY, 0, 0),
-        Err(SimFault::Argument | SimFault::Read | SimFault::Write | SimFault::Failed) => (
-            WRONG, 0, 0,
-        ),
+        Err(
+            SimFault::Argument
+            | SimFault::Read
+            | SimFault::Write
+            | SimFault::Failed
+            | SimFault::NotStarted,
+        ) => (WRONG, 0, 0),
     };
     (
         status,

@@ -25,7 +25,8 @@ fn is_refused(ended: Result<(), SimFault>) -> bool
             | SimFault::Read
             | SimFault::Write
             | SimFault::BookFull
-            | SimFault::Failed,
+            | SimFault::Failed
+            | SimFault::NotStarted,
         )
         | Ok(()) => false,
     }

@@ -114,7 +114,9 @@ impl From<SimFault> for LabFault {
     fn from(fault: SimFault) -> LabFault {
         match fault {
             SimFault::Script { line, why } => LabFault::Script { line, why },
-            SimFault::Read | SimFault::Argument | SimFault::Failed => LabFault::Read,
+            SimFault::Read | SimFault::Argument | SimFault::Failed | SimFault::NotStarted => {
+                LabFault::Read
+            }
             SimFault::Write => LabFault::Write,
             SimFault::BookFull => LabFault::BookFull,
             SimFault::OutOfMemory => LabFault::OutOfMemory,

@@ -20,6 +20,7 @@ comes-err view other fault.Read out f is comes = ap f comes ∙ is fault.Read
 comes-err view other fault.Write out f is comes = ap f comes ∙ is fault.Write
 comes-err view other fault.BookFull out f is comes = ap f comes ∙ is fault.BookFull
 comes-err view other fault.Failed out f is comes = ap f comes ∙ is fault.Failed
+comes-err view other fault.NotStarted out f is comes = ap f comes ∙ is fault.NotStarted
 
 -- what is where a book is
 pub comes-stands : {X : Type 0} (boot : Option Boot) (r : Result X SimFault) (k : Book) (out : Result Book SimFault) → ComesOf (λ u. k) r out → ComesOf (λ u. record { boot = boot; book = Some k }) r (stands boot out)
@@ -35,6 +36,7 @@ comes-fault view fault.Read out comes = inl comes
 comes-fault view fault.Write out comes = inl comes
 comes-fault view fault.BookFull out comes = inl comes
 comes-fault view fault.Failed out comes = inl comes
+comes-fault view fault.NotStarted out comes = inl comes
 
 -- while the boot continues
 pub after-open : (t : Script Step) (n : ℕ) (l : List ℕ) → t.items ≡ [] → after_line (opened_to t.boot None) n l ≡ after_boot_line (read_at n (read_line of_steps t n l))

@@ -13,6 +13,7 @@ fault_status fault.Write = 4
 fault_status fault.BookFull = 5
 fault_status fault.OutOfMemory = 6
 fault_status fault.Failed = 7
+fault_status fault.NotStarted = 7
 
 -- the line that tells a fault, without its newline
 abbrev pub fault_text : SimFault → List ℕ
@@ -23,3 +24,4 @@ fault_text fault.Write = codes "mcssim: write fault"
 fault_text fault.BookFull = codes "mcssim: book full"
 fault_text fault.OutOfMemory = codes "mcssim: out of memory"
 fault_text fault.Failed = codes "mcssim: run failed"
+fault_text fault.NotStarted = codes "mcssim: run failed"

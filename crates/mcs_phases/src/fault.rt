@@ -19,9 +19,10 @@ pub enum SimFault {
     BookFull,
     /// Memory was refused.
     OutOfMemory,
-    /// A run of users failed: a host thread was not started, or the book does not agree with the
-    /// calls of the cores.
+    /// A run of users failed: the book does not agree with the calls of the cores.
     Failed,
+    /// A run of users failed: a host thread was not started.
+    NotStarted,
 }
 
 impl SimFault {
@@ -38,7 +39,7 @@ impl SimFault {
             SimFault::Write => 4,
             SimFault::BookFull => 5,
             SimFault::OutOfMemory => 6,
-            SimFault::Failed => 7,
+            SimFault::Failed | SimFault::NotStarted => 7,
         }
     }
 }
@@ -60,7 +61,7 @@ impl fmt::Display for SimFault {
             SimFault::Write => f.write_str("mcssim: write fault"),
             SimFault::BookFull => f.write_str("mcssim: book full"),
             SimFault::OutOfMemory => f.write_str("mcssim: out of memory"),
-            SimFault::Failed => f.write_str("mcssim: run failed"),
+            SimFault::Failed | SimFault::NotStarted => f.write_str("mcssim: run failed"),
         }
     }
 }

@@ -260,7 +260,9 @@ ends-by e left left' out out' g text piece h rest is goes few read end takes mov
     go fault.Write same (inl other) = absurd cc
     go fault.Write same (inr comes) = absurd (of-text (steps (text ++ piece)) _ fault.Write (fed-as-read (text ++ piece)) comes.0)
     go fault.Failed same (inl other) = absurd cc
+    go fault.NotStarted same (inl other) = absurd cc
     go fault.Failed same (inr comes) = absurd (of-text (steps (text ++ piece)) _ fault.Failed (fed-as-read (text ++ piece)) comes.0)
+    go fault.NotStarted same (inr comes) = absurd (of-text (steps (text ++ piece)) _ fault.NotStarted (fed-as-read (text ++ piece)) comes.0)
 
 -- the run ends by a failed write
 pub ends-write : (left left' out out' : Option (List ℕ)) (g : Going) (text piece : List ℕ) (h : Going) (rest : List ℕ)

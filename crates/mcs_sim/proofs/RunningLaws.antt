@@ -20,6 +20,7 @@ RunEnds-machine fault.Write asked left left' out boot entries is reads = absurd 
 RunEnds-machine fault.BookFull asked left left' out boot entries is reads = ((boot, entries, reads), Appends-nil out)
 RunEnds-machine fault.OutOfMemory asked left left' out boot entries is reads = (inr (boot, entries, reads), Appends-nil out)
 RunEnds-machine fault.Failed asked left left' out boot entries is reads = ((boot, entries, reads), Appends-nil out)
+RunEnds-machine fault.NotStarted asked left left' out boot entries is reads = ((boot, entries, reads), Appends-nil out)
 
 -- a write that fails leaves a beginning of the trace of the book that was settled
 pub IfErr-run_writes : (r : Result (Unit {0}) SimFault) (asked : Option ℕ) (left left' out out' : Option (List ℕ)) (boot : Boot) (entries : List UserEntry) (book written : Book)
@@ -45,3 +46,4 @@ RunEnds-reading fault.Write asked left left' out ends = absurd ends
 RunEnds-reading fault.BookFull asked left left' out ends = absurd ends
 RunEnds-reading fault.OutOfMemory asked left left' out ends = (inl ends, Appends-nil out)
 RunEnds-reading fault.Failed asked left left' out ends = absurd ends
+RunEnds-reading fault.NotStarted asked left left' out ends = absurd ends

@@ -170,6 +170,7 @@ fault-line u part line fault.Write is plain bad = absurd bad
 fault-line u part line fault.BookFull is plain bad = absurd bad
 fault-line u part line fault.OutOfMemory is plain bad = tt
 fault-line u part line fault.Failed is plain bad = absurd bad
+fault-line u part line fault.NotStarted is plain bad = absurd bad
 
 -- ---- bytes after bytes
 
@@ -201,6 +202,7 @@ fault-behind u v xs ys fault.Write takes bad = absurd bad
 fault-behind u v xs ys fault.BookFull takes bad = absurd bad
 fault-behind u v xs ys fault.OutOfMemory takes bad = tt
 fault-behind u v xs ys fault.Failed takes bad = absurd bad
+fault-behind u v xs ys fault.NotStarted takes bad = absurd bad
 
 pub fault-before : (u : Users) (xs ys : List ℕ) (e : SimFault) → IsFaultIn xs u e → IsFaultIn (xs ++ ys) u e
 fault-before u xs ys fault.Argument bad = absurd bad
@@ -210,6 +212,7 @@ fault-before u xs ys fault.Write bad = absurd bad
 fault-before u xs ys fault.BookFull bad = absurd bad
 fault-before u xs ys fault.OutOfMemory bad = tt
 fault-before u xs ys fault.Failed bad = absurd bad
+fault-before u xs ys fault.NotStarted bad = absurd bad
 
 -- a fault of a piece, in the line that ends after what was taken of it
 pub fault-within : (u v : Users) (piece before line rest : List ℕ) (e : SimFault) → piece ≡ before ++ (line ++ rest) → TakesUsers before u v → IsFaultIn line v e → IsFaultIn piece u e
@@ -254,6 +257,7 @@ last-fault u fault.Write kept some bad = absurd bad
 last-fault u fault.BookFull kept some bad = absurd bad
 last-fault u fault.OutOfMemory kept some bad = tt
 last-fault u fault.Failed kept some bad = absurd bad
+last-fault u fault.NotStarted kept some bad = absurd bad
 
 -- a fault of what was left at the end
 pub fault-same : (u v : Users) (e : SimFault) → read_to_end u ≡ read_to_end v → IsFaultAtEnd v e → IsFaultAtEnd u e
@@ -264,6 +268,7 @@ fault-same u v fault.Write same bad = absurd bad
 fault-same u v fault.BookFull same bad = absurd bad
 fault-same u v fault.OutOfMemory same bad = tt
 fault-same u v fault.Failed same bad = absurd bad
+fault-same u v fault.NotStarted same bad = absurd bad
 
 -- what all lines said
 pub end-said : (u : Users) (boot : Boot) → u.line ≡ [] → u.script.boot ≡ Some boot → read_to_end u ≡ (u.script, None)
@@ -362,6 +367,7 @@ ends-in fault.Write asked left left' text piece u takes kept few read bad = absu
 ends-in fault.BookFull asked left left' text piece u takes kept few read bad = absurd bad
 ends-in fault.OutOfMemory asked left left' text piece u takes kept few read bad = (text ++ piece, read, stops-in asked text piece u takes kept few)
 ends-in fault.Failed asked left left' text piece u takes kept few read bad = absurd bad
+ends-in fault.NotStarted asked left left' text piece u takes kept few read bad = absurd bad
 
 -- a fault at the end
 pub ends-at : (e : SimFault) (asked : Option ℕ) (left left' : Option (List ℕ)) (text : List ℕ) (u : Users) → TakesUsers text (no_users asked) u → IsKept u.lines u.line
@@ -379,6 +385,7 @@ ends-at fault.Write asked left left' text u takes kept read end bad = absurd bad
 ends-at fault.BookFull asked left left' text u takes kept read end bad = absurd bad
 ends-at fault.OutOfMemory asked left left' text u takes kept read end bad = (text, read, stops-here asked text u takes kept)
 ends-at fault.Failed asked left left' text u takes kept read end bad = absurd bad
+ends-at fault.NotStarted asked left left' text u takes kept read end bad = absurd bad
 
 -- no fault
 pub reads-all : (asked : Option ℕ) (left left' : Option (List ℕ)) (text : List ℕ) (u : Users) (boot : Boot) (entries : List UserEntry) → TakesUsers text (no_users asked) u

@@ -55,7 +55,7 @@ EndsUsers _ asked left left' = ⊥
 abbrev pub run_fault : RunFault → SimFault
 run_fault run.BookFull = fault.BookFull
 run_fault run.OutOfMemory = fault.OutOfMemory
-run_fault run.NoThread = fault.Failed
+run_fault run.NoThread = fault.NotStarted
 
 -- how the program says why a machine did not settle
 abbrev pub finish_fault : FinishFault → SimFault
@@ -67,6 +67,7 @@ abbrev pub IsOfMachine : SimFault → Type 0
 IsOfMachine fault.BookFull = Unit {0}
 IsOfMachine fault.OutOfMemory = Unit {0}
 IsOfMachine fault.Failed = Unit {0}
+IsOfMachine fault.NotStarted = Unit {0}
 IsOfMachine _ = ⊥
 
 -- a book that a machine can have that began with this boot
@@ -104,6 +105,7 @@ RunEnds fault.Write asked left left' out out' = RunWrites asked left left' out o
 RunEnds fault.BookFull asked left left' out out' = ReadsUsers asked left left' × Appends out out' []
 RunEnds fault.OutOfMemory asked left left' out out' = (ReadsPart asked left left' ⊎ ReadsUsers asked left left') × Appends out out' []
 RunEnds fault.Failed asked left left' out out' = ReadsUsers asked left left' × Appends out out' []
+RunEnds fault.NotStarted asked left left' out out' = ReadsUsers asked left left' × Appends out out' []
 
 -- a run from a source to a sink was finished
 abbrev pub RunFinished : {R W : Type 0} → (R → Option (List ℕ)) → (W → Option (List ℕ)) → (asked : Option ℕ) (from from' : Source R) → (to to' : Sink W) → Type 0

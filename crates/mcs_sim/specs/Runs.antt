@@ -83,6 +83,7 @@ Leaves fault.Write old new text = Begins old new (written text)
 Leaves fault.BookFull old new text = Begins old new (written text) × IsFull (steps text).0.boot (steps text).0.items
 Leaves fault.OutOfMemory old new text = Begins old new (written text)
 Leaves fault.Failed old new text = ⊥
+Leaves fault.NotStarted old new text = ⊥
 
 -- what a run leaves that ended without fault: it read a text to the end of the input, in which
 -- nothing is wrong, and wrote all of the trace of the book that its steps make after its boot,

@@ -6,8 +6,7 @@ use std::process::ExitCode;
 use std::{fmt, io};
 
 /// What it means if a run failed.
-const FAILED: &str =
-    "a host thread did not start, or the book did not agree with what the cores got";
+const FAILED: &str = "the book did not agree with what the cores got";
 
 /// A fault, followed by its explanation.
 #[derive(Drop)]
@@ -24,6 +23,7 @@ impl fmt::Display for Explained {
             SimFault::BookFull => write!(f, "{fault}: a book has at most 1,000,000 lines"),
             SimFault::OutOfMemory => write!(f, "{fault}: the system gave no more"),
             SimFault::Failed => write!(f, "{fault}: {FAILED}"),
+            SimFault::NotStarted => write!(f, "{fault}: a host thread did not start"),
         }
     }
 }

@@ -27,6 +27,7 @@ const FAULTS: &[(SimFault, u8, &str)] = &[
     (SimFault::BookFull, 5, "mcssim: book full"),
     (SimFault::OutOfMemory, 6, "mcssim: out of memory"),
     (SimFault::Failed, 7, "mcssim: run failed"),
+    (SimFault::NotStarted, 7, "mcssim: run failed"),
 ];
 
 /// Returns whether a fault has this status and this text.
