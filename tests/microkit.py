@@ -4,8 +4,9 @@
     python3 tests/microkit.py [MCSLAB]           also compiles each plan, and tries the cases, with this program
     python3 tests/microkit.py --write [MCSLAB]   writes the expected files anew, and the steps of the cases
 
-The plan of examples/microkit, merged into its description, has to stay as it is. tests/microkit/cases.txt has the rows of the table of
-cases in examples/microkit/README.md: of each small system, which has one order, the steps of the domains that `of` names.
+The plan of examples/microkit, merged into its description, has to stay as it is. examples/microkit/cases.txt has the rows of the table
+of cases in the README beside it: of each small system, which has one order, the steps of the domains that `of` names. cases.told has
+the whole run of each, with which `rt ci` compares them.
 """
 import os
 import subprocess
@@ -91,7 +92,7 @@ def steps_of(mcslab, plan, domains):
 
 
 def check_cases(mcslab, writes):
-    path = os.path.join(CASES, "cases.txt")
+    path = os.path.join(EXAMPLE, "cases.txt")
     faults, texts = [], []
     for case in text_of(path).split("%%%\n"):
         plan, wanted = case.split("---\n")

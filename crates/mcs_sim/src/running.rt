@@ -138,9 +138,10 @@ fn run_users<X: Threads + Wait + Sync, T: Gate>(
 /// such a trace is written, and after any other fault nothing: `Script` if a line is faulty,
 /// `OutOfMemory` if an allocation fails, `BookFull` if the book had no room for an entry,
 /// `NotStarted` if a host thread was not started, and `Failed` if the book does not agree with the
-/// calls of the cores. Nothing is read after the piece of at most 4,096 bytes that contains a fault: that of a line comes with
-/// its newline, its 4,097th byte, or the first byte of line 2,000,001. The gate is called as
-/// `Machine::run` says. Reads and writes are retried as `simulate` does.
+/// calls of the cores. Nothing is read after the piece of at most 4,096 bytes that contains a
+/// fault: that of a line comes with its newline, its 4,097th byte, or the first byte of line
+/// 2,000,001. The gate is called as `Machine::run` says. Reads and writes are retried as `simulate`
+/// does.
 pub fn run_text<R: Read, W: Write, X: AllocGlobal + Threads + Wait + Sync, T: Gate>(
     rt: &X,
     from: &mut Source<R>,

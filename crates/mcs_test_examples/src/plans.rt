@@ -49,7 +49,7 @@ fn bytes_of(rt: &HostRuntime, path: &str) -> Result<Vec<u8>, LabFault> {
 }
 
 /// The text that a file holds.
-fn read_text(rt: &HostRuntime, path: &str) -> Result<String, LabFault> {
+pub fn read_text(rt: &HostRuntime, path: &str) -> Result<String, LabFault> {
     fs::read_to_string(rt, path).map_err(|_| LabFault::Read)
 }
 
@@ -71,7 +71,7 @@ fn text_of(alloc: Global, compiled: &Compiled) -> Result<String, LabFault> {
 }
 
 /// Returns the script of a plan, or the message about its fault.
-fn told_of(alloc: Global, plan: &[u8]) -> Result<String, LabFault> {
+pub fn told_of(alloc: Global, plan: &[u8]) -> Result<String, LabFault> {
     match load(alloc, plan) {
         Ok(loaded) => text_of(alloc, &loaded.compiled),
         Err(fault) => Ok(format!(in alloc; "{fault}")?),

@@ -1,5 +1,6 @@
-//! Draws runs: whether each replays, and what one shows.
+//! Draws runs: whether each replays, and what one shows; and the one run of each of some systems.
 use crate::orders::{SCRIPTS, count_steps, holds, is_whole};
+use crate::plans::{read_text, told_of};
 use mcs_explore_questions::ExploreFault;
 use mcs_explore_run::{Chances, Drawn, draw_run, tell_runs};
 use mcs_explore_script::read_script;
@@ -21,6 +22,9 @@ const WRITTEN: &str = "programs/restarted.mcs";
 const TOLD: &[&str] = &["explore/lost-signal.mcs", "explore/mutex.mcs"];
 
 const RUNS: usize = 200;
+
+/// Small systems of Microkit that have one run each, and the script of each run.
+const CASES: &str = "microkit/cases";
 
 /// The runs that were drawn: how many there are, how many turns they have, in how many no turn is
 /// possible at the end, of how many the kernel accepts exactly these turns, and in how many each
@@ -75,8 +79,35 @@ impl Walks {
     }
 }
 
-/// Draws runs of all scripts of users, and writes how they replay; then writes one run, and reports
-/// many of two scripts.
+/// Returns the script of the run of a system, the plan before a line `---`.
+fn run_of(rt: &HostRuntime, case: &str) -> Result<String, ExploreFault> {
+    let plan = case.split("---\n").next().unwrap_or("");
+    let text = told_of(rt.alloc(), plan.as_bytes())?;
+    let script = read_script(rt.alloc(), &mut Source::new(text.as_bytes()))?;
+    let run = draw_run(rt.alloc(), &script, b"", 1, TURNS)?;
+    Ok(String::from_utf8_lossy(rt.alloc(), &run.text)?)
+}
+
+/// Compares the run of each small system with the one that is kept.
+fn compare_cases<W: Write>(rt: &HostRuntime, to: &mut W) -> Result<(), ExploreFault> {
+    let cases = read_text(rt, format!(in rt.alloc(); "{CASES}.txt")?.as_str())?;
+    let kept = read_text(rt, format!(in rt.alloc(); "{CASES}.told")?.as_str())?;
+    let mut kept = kept.split("%%%\n");
+    let mut count: usize = 0;
+    for case in cases.split("%%%\n") {
+        let run = run_of(rt, case)?;
+        if kept.next() == Some(run.as_str()) {
+            count = count.saturating_add(1);
+        } else {
+            writeln!(to, "# NOT AS KEPT: {run}")?;
+        }
+    }
+    writeln!(to, "# {CASES}.txt: {count} as kept")?;
+    Ok(())
+}
+
+/// Draws runs of all scripts of users, and writes how they replay; then writes one run, reports
+/// many of two scripts, and compares the runs of small systems.
 pub fn draw_walks<W: Write>(rt: &HostRuntime, to: &mut W) -> Result<(), ExploreFault> {
     let mut walks = Walks {
         count: 0,
@@ -105,5 +136,5 @@ pub fn draw_walks<W: Write>(rt: &HostRuntime, to: &mut W) -> Result<(), ExploreF
     for path in TOLD {
         tell_many(rt, to, path)?;
     }
-    Ok(())
+    compare_cases(rt, to)
 }
