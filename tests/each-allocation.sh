@@ -138,9 +138,11 @@ runs() {
 threads() {
     input=$1
     number=1
-    while refuse_any REFUSED_THREAD $number crates/mcssim/out/mcssim run; do
+    printf '%s\n' 'mcssim: run failed' 'mcssim: run failed: a host thread did not start' >"$work/wanted"
+    while refuse_any REFUSED_THREAD $number crates/mcssim/out/mcssim run --explain; do
         [ $status -eq 7 ] || { echo "thread $number: status $status"; exit 1; }
         [ ! -s "$work/out" ]
+        cmp "$work/wanted" "$work/err"
         number=$((number + 1))
     done
     echo "mcssim run, $(basename "$input"): $((number - 1)) threads, each refused in turn; nothing was written"
