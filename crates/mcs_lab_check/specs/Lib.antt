@@ -1,6 +1,7 @@
 pub mod Names
 pub mod Naming
 pub mod NamesHad
+pub mod GivenTo
 pub mod Asking
 pub mod Seen
 pub mod Verdicts

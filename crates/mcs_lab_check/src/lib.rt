@@ -2,6 +2,7 @@
 #![tactic(auto)]
 
 mod asking;
+mod by_name;
 mod checking;
 mod fault;
 mod flaw;

@@ -4,8 +4,10 @@ ghost use Rattle.std.specs.List.{list_all};
 ghost use Rattle.mcs_text.specs.Reading.{words_of};
 ghost use Rattle.mcs_types.specs.declared.id.ObjId.{ObjId};
 ghost use Rattle.mcs_lab_check.specs.NamesHad.{name_in};
-ghost use Rattle.mcs_lab_check.specs.Naming.{answered, gives, given_at, is_formed, is_name, is_of_name, is_this, line_names, name_of, name_text, naming_of, what_named, with_found};
+ghost use Rattle.mcs_lab_check.specs.GivenTo.{named_now_of};
+ghost use Rattle.mcs_lab_check.specs.Naming.{answered, given_at, is_formed, is_name, is_of_name, is_this, line_names, name_of, name_text, naming_of, what_named, with_found};
 
+use crate::by_name::ByName;
 use crate::fault::LabFault;
 use crate::latest::Latest;
 use crate::words::{object_of, queue_of};
@@ -45,19 +47,19 @@ pub enum Named {
 pub struct Names {
     all: Vec<Given>,
     latest: Latest,
+    by_name: ByName,
 }
 
 impl Model for Names {
-    ghost use Rattle.std.specs.Prelude.{◌≡◌, List};
-    ghost use Rattle.mcs_types.specs.declared.id.ObjId.{ObjId};
-    ghost use Rattle.mcs_lab_check.specs.NamesHad.{name_in};
-    ghost use Rattle.mcs_lab_check.specs.Naming.{Naming, name_of};
+    ghost use Rattle.std.specs.Prelude.{List};
+    ghost use Rattle.mcs_lab_check.specs.GivenTo.{AreIndexed};
+    ghost use Rattle.mcs_lab_check.specs.Naming.{Naming};
 
     ghost Value = { List Naming };
 
     ghost view = { λ n. n.all.items };
 
-    ghost invariant = { λ n. (o : ObjId) → name_in n.latest o ≡ name_of n.all.items o };
+    ghost invariant = { λ n. AreIndexed n.latest n.by_name n.all.items };
 }
 
 /// Returns the text after `#@ ` of a line, without its newline; None if the line begins otherwise.
@@ -120,14 +122,6 @@ fn has_name(latest: &Latest, object: ObjId, name: &[u8]) -> bool
     }
 }
 
-/// Returns whether an object was given this name, and still has it.
-fn gives(all: &[Given], latest: &Latest, given: &Given, name: &[u8]) -> bool
-    requires { (o : ObjId) → name_in latest.now o ≡ name_of all.now o }
-    ensures { result ≡ gives all.now name.now given.now }
-{
-    given.name.as_slice() == name && has_name(latest, given.object, name)
-}
-
 /// Returns what a name refers to after one more object with it was found.
 fn with_found(found: Named, object: ObjId) -> Named
     ensures { result ≡ with_found found object }
@@ -139,15 +133,14 @@ fn with_found(found: Named, object: ObjId) -> Named
     }
 }
 
-/// Returns what a name refers to among those given.
-fn what_named(all: &[Given], latest: &Latest, name: &[u8]) -> Named
-    requires { (o : ObjId) → name_in latest.now o ≡ name_of all.now o }
-    ensures { result ≡ what_named all.now name.now }
+/// Returns what a name refers to among the objects that it was given to.
+fn what_named(objects: &[ObjId], latest: &Latest, name: &[u8]) -> Named
+    ensures { result ≡ named_now_of objects.now latest.now name.now }
 {
     let mut found = Named::Nothing;
-    for given in all {
-        if gives(all, latest, given, name) {
-            found = with_found(found, given.object);
+    for object in objects {
+        if has_name(latest, *object, name) {
+            found = with_found(found, *object);
         }
     }
     found
@@ -170,6 +163,7 @@ impl Names {
         Names {
             all: Vec::new(alloc),
             latest: Latest::new(alloc),
+            by_name: ByName::new(alloc),
         }
     }
 
@@ -182,7 +176,11 @@ impl Names {
         let name = Vec::from_slice(alloc, word)?;
         let now = Vec::from_slice(alloc, word)?;
         self.all.reserve(1)?;
-        self.latest.put(object, now)?;
+        self.by_name.add(alloc, word, object)?;
+        if let Err(failed) = self.latest.put(object, now) {
+            self.by_name.take_back(word);
+            return Err(failed);
+        }
         // there is room
         self.all.push(Given { object, name })?;
         Ok(())
@@ -217,7 +215,7 @@ impl Names {
     pub fn find(&self, name: &[u8]) -> Named
         ensures { result ≡ what_named self.now name.now }
     {
-        what_named(&self.all, &self.latest, name)
+        what_named(self.by_name.of(name), &self.latest, name)
     }
 
     /// Writes the name of an object in parentheses, if it has one.
