@@ -1,2 +1,4 @@
+mod Channels
+mod Lines
 mod Lowerings
 mod Turns

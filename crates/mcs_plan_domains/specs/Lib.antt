@@ -1,4 +1,5 @@
 pub mod Boots
+pub mod Channels
 pub mod Inputs
 pub mod Lowered
 pub mod Monitors

@@ -1,6 +1,7 @@
 //! A plan with protection domains, or with passive threads among users, as one without.
 ghost use Rattle.std.specs.Prelude.{◌≡◌, IfOk, IfSome, OnOk};
 ghost use Rattle.mcs_plan_domains.specs.Pages.{page_of};
+ghost use Rattle.mcs_plan_domains.specs.Channels.{AllLead};
 ghost use Rattle.mcs_plan_domains.specs.Lowered.{IsLowered, IsPlanOf, plain_put, system_put};
 
 use crate::capabilities::put_boot;
@@ -51,9 +52,12 @@ fn lowered_of(alloc: Global, system: &System<'_>) -> Result<Lowered, Refused>
 
 /// Returns the plan of a system: its other lines, the objects of its domains, their threads, what
 /// each domain has, a program for each domain and each monitor, and its questions (`system_put`).
-/// The faults name the line and the word; OutOfMemory where memory was refused.
+/// In it each end of a channel has its capabilities (`Leads`). The faults name the line and the
+/// word; OutOfMemory where memory was refused.
+#[tactic(auto, using(crate::proofs::Channels::plan_leads))]
 pub fn lower_system(alloc: Global, system: &System<'_>) -> Result<Lowered, PlanFault>
-    ensures { IfOk result (λ out. IsPlanOf system.now (page_of out)) }
+    ensures plan { IfOk result (λ out. IsPlanOf system.now (page_of out)) }
+    ensures channels { IfOk result (λ out. AllLead (page_of out) system.now) }
 {
     Ok(lowered_of(alloc, system)?)
 }
