@@ -1,4 +1,5 @@
 mod Channels
+mod Joins
 mod Lines
 mod Lowerings
 mod Turns

@@ -4,6 +4,8 @@ use Rattle.mcs_plan_domains.specs.declared.capabilities.TheConstants.{CORES}
 use Rattle.mcs_plan_domains.specs.declared.system.Plain.{Plain}
 use Rattle.mcs_plan_domains.specs.declared.system.System.{System}
 use Rattle.mcs_plan_domains.specs.Boots.{boot_put}
+use Rattle.mcs_plan_domains.specs.Channels.{AllLead}
+use Rattle.mcs_plan_domains.specs.Joins.{AllJoin}
 use Rattle.mcs_plan_domains.specs.Monitors.{programs_put}
 use Rattle.mcs_plan_domains.specs.Pages.{Page, blank, joined, last_put, put}
 use Rattle.mcs_plan_domains.specs.Questions.{questions_put}
@@ -35,7 +37,7 @@ pub record IsStarted (p : Page) : Type 0 where
   pub line : ℕ
   pub is : p ≡ entry_put before line (codes ": suspend ") (codes "starter") []
 
--- the plan of a system, or one with a starter
+-- the plan of a system whose channels join its domains, or one with a starter
 pub data IsLowered (p : Page) : Type 0 where
-  of_system : (s : System) → IsPlanOf s p → IsLowered p
+  of_system : (s : System) → AllJoin s → AllLead p s → IsPlanOf s p → IsLowered p
   started : IsStarted p → IsLowered p

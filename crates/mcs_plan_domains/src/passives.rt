@@ -66,10 +66,10 @@ fn passive_of<'a>(words: &[&'a str], line: u64, place: usize) -> Option<Passive<
 
 /// Returns the name of the thread that a line makes, if it makes one.
 fn thread_of<'a>(words: &[&'a str]) -> Option<&'a str> {
-    match words {
-        [first, name, ..] if *first == "thread" => Some(*name),
-        _ => None,
+    if !is(words.first(), "thread") {
+        return None;
     }
+    words.get(1).copied()
 }
 
 /// Returns the thread whose entries or program a line gives, if it does.
@@ -159,20 +159,20 @@ impl<'a> Threads<'a> {
 }
 
 /// Puts the name of the notification by which a passive thread tells that it has begun to receive.
-fn put_ready(out: &mut Lowered, passive: Passive<'_>) -> Result<(), AllocError> {
+fn put_ready(out: &mut Lowered, passive: &Passive<'_>) -> Result<(), AllocError> {
     out.put(STARTER)?;
     out.counted(".ready", (passive.place as u64).saturating_add(1))
 }
 
 /// Appends the first entry of a passive thread: it signals that it has begun, and receives.
-fn put_receive(out: &mut Lowered, passive: Passive<'_>) -> Result<(), AllocError> {
+fn put_receive(out: &mut Lowered, passive: &Passive<'_>) -> Result<(), AllocError> {
     out.put("nbsendrecv ")?;
     put_ready(out, passive)?;
     put_receiving(out, passive)
 }
 
 /// Puts with what a passive thread receives, the last of an entry.
-fn put_receiving(out: &mut Lowered, passive: Passive<'_>) -> Result<(), AllocError> {
+fn put_receiving(out: &mut Lowered, passive: &Passive<'_>) -> Result<(), AllocError> {
     out.put(" ")?;
     out.put(passive.endpoint)?;
     out.last_name(passive.line, " ", passive.reply, " 0")
@@ -182,7 +182,7 @@ fn put_receiving(out: &mut Lowered, passive: Passive<'_>) -> Result<(), AllocErr
 fn put_has_ready(
     out: &mut Lowered,
     holder: &str,
-    passive: Passive<'_>,
+    passive: &Passive<'_>,
     rights: &str,
 ) -> Result<(), AllocError> {
     out.put(holder)?;
@@ -192,7 +192,7 @@ fn put_has_ready(
 }
 
 /// Appends the objects and capabilities for a passive thread, its own and the starter's.
-fn put_needs(out: &mut Lowered, passive: Passive<'_>) -> Result<(), AllocError> {
+fn put_needs(out: &mut Lowered, passive: &Passive<'_>) -> Result<(), AllocError> {
     put_has_ready(out, passive.name, passive, ":w")?;
     put_has_ready(out, STARTER, passive, ":r")?;
     out.put(STARTER)?;
@@ -202,13 +202,13 @@ fn put_needs(out: &mut Lowered, passive: Passive<'_>) -> Result<(), AllocError> 
 /// Puts what all passive threads and the starter need for them.
 fn put_all_needs(out: &mut Lowered, passives: &[Passive<'_>]) -> Result<(), AllocError> {
     for passive in passives {
-        put_needs(out, *passive)?;
+        put_needs(out, passive)?;
     }
     Ok(())
 }
 
 /// Puts the notification of a passive thread.
-fn put_notification(out: &mut Lowered, passive: Passive<'_>) -> Result<(), AllocError> {
+fn put_notification(out: &mut Lowered, passive: &Passive<'_>) -> Result<(), AllocError> {
     out.put("notification ")?;
     put_ready(out, passive)?;
     out.end(passive.line)
@@ -217,7 +217,7 @@ fn put_notification(out: &mut Lowered, passive: Passive<'_>) -> Result<(), Alloc
 /// Puts the notifications of all passive threads.
 fn put_notifications(out: &mut Lowered, passives: &[Passive<'_>]) -> Result<(), AllocError> {
     for passive in passives {
-        put_notification(out, *passive)?;
+        put_notification(out, passive)?;
     }
     Ok(())
 }
@@ -258,7 +258,7 @@ fn put_entry(
 }
 
 /// Puts that the starter waits until a passive thread receives.
-fn put_wait(out: &mut Lowered, passive: Passive<'_>) -> Result<(), AllocError> {
+fn put_wait(out: &mut Lowered, passive: &Passive<'_>) -> Result<(), AllocError> {
     out.put("user ")?;
     out.put(STARTER)?;
     out.put(": wait ")?;
@@ -269,7 +269,7 @@ fn put_wait(out: &mut Lowered, passive: Passive<'_>) -> Result<(), AllocError> {
 /// Puts that the starter waits until all passive threads receive.
 fn put_waits(out: &mut Lowered, passives: &[Passive<'_>]) -> Result<(), AllocError> {
     for passive in passives {
-        put_wait(out, *passive)?;
+        put_wait(out, passive)?;
     }
     Ok(())
 }
@@ -352,13 +352,13 @@ fn put_behind(out: &mut Lowered, threads: &Threads<'_>, line: &Line<'_>) -> Resu
         && let Some(passive) = threads.passive(name)
     {
         out.put("  ")?;
-        put_receive(out, passive)?;
+        put_receive(out, &passive)?;
     }
     Ok(())
 }
 
 /// Appends the first entry of a passive thread as a line of a user.
-fn put_first(out: &mut Lowered, passive: Passive<'_>) -> Result<(), AllocError> {
+fn put_first(out: &mut Lowered, passive: &Passive<'_>) -> Result<(), AllocError> {
     out.put("user ")?;
     out.put(passive.name)?;
     out.put(": ")?;
@@ -386,7 +386,7 @@ fn put_front(
     put_starter(out, threads, first)?;
     for passive in &threads.passives {
         if !has_program(lines, passive.name) {
-            put_first(out, *passive)?;
+            put_first(out, passive)?;
         }
     }
     Ok(())

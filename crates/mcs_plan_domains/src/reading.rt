@@ -1,4 +1,7 @@
 //! Reads a plan with protection domains.
+ghost use Rattle.std.specs.Prelude.{◌≡◌, ◌<◌, IfOk, IfSome, OnOk, length};
+ghost use Rattle.mcs_plan_domains.specs.Joins.{AddsChannel, AllJoin, HasEnds, JoinsMore, called_at, with_line};
+
 use crate::badges::CHANNEL_MAX;
 use crate::cursor::Cursor;
 use crate::ends::End;
@@ -244,7 +247,9 @@ impl<'a> System<'a> {
     }
 
     /// Reads an end of a channel. `Twice` if another channel has it.
-    fn end_of(&self, alloc: Global, word: &str) -> Result<End, Why> {
+    fn end_of(&self, alloc: Global, word: &str) -> Result<End, Why>
+        ensures { IfOk result (λ e. e.domain < length self.now.domains.items) }
+    {
         let Some((name, digits)) = word.rsplit_once('.') else {
             return Err(not(alloc, word, END));
         };
@@ -273,7 +278,9 @@ impl<'a> System<'a> {
     }
 
     /// Adds a channel between two ends.
-    fn add_channel(&mut self, alloc: Global, channel: Channel, second: &str) -> Result<(), Why> {
+    fn add_channel(&mut self, alloc: Global, channel: Channel, second: &str) -> Result<(), Why>
+        ensures { OnOk result (AddsChannel self.old channel self.new) }
+    {
         if channel.first == channel.second {
             return Err(twice(alloc, second));
         }
@@ -288,14 +295,20 @@ impl<'a> System<'a> {
     }
 
     /// Notes that the domain in a place may be called.
-    fn note_called(&mut self, place: usize) {
+    #[tactic(auto, using(crate::proofs::Joins::called_nowhere))]
+    fn note_called(&mut self, place: usize)
+        ensures domains { self.new.domains.items ≡ called_at self.old.domains.items place }
+        ensures channels { self.new.channels.items ≡ self.old.channels.items }
+    {
         if let Some(domain) = self.domains.get_mut(place) {
-            domain.is_called = true;
+            domain.be_called();
         }
     }
 
     /// Reads an end of a channel, the next word.
-    fn read_end<'w>(&self, alloc: Global, words: &mut Cursor<'w>) -> Result<(End, &'w str), Why> {
+    fn read_end<'w>(&self, alloc: Global, words: &mut Cursor<'w>) -> Result<(End, &'w str), Why>
+        ensures { IfOk result (λ e. e.0.domain < length self.now.domains.items) }
+    {
         let word = words.need(END)?;
         Ok((self.end_of(alloc, word)?, word))
     }
@@ -326,7 +339,9 @@ impl<'a> System<'a> {
         alloc: Global,
         line: u64,
         words: &mut Cursor<'w>,
-    ) -> Result<(Channel, &'w str), Why> {
+    ) -> Result<(Channel, &'w str), Why>
+        ensures { IfOk result (λ c. HasEnds self.now c.0) }
+    {
         let (first, _word) = self.read_end(alloc, words)?;
         let (second, word) = self.read_end(alloc, words)?;
         let is_called = self.read_called(alloc, words, (first, second), word)?;
@@ -341,18 +356,21 @@ impl<'a> System<'a> {
     }
 
     /// Reads a line of a channel: `channel client.1 server.1 pp`.
-    fn read_channel(&mut self, alloc: Global, statement: &Statement<'a>) -> Result<(), Why> {
+    #[tactic(auto, using(crate::proofs::Joins::adds_more))]
+    fn read_channel(&mut self, alloc: Global, statement: &Statement<'a>) -> Result<(), Why>
+        ensures { OnOk result (JoinsMore self.old self.new) }
+    {
         let mut words = Cursor::new(alloc, &statement.words, 1);
         let (channel, word) = self.channel_said(alloc, statement.line, &mut words)?;
         self.add_channel(alloc, channel, word)
     }
 
-    /// Reads the lines of channels.
-    fn read_channels(
-        &mut self,
-        alloc: Global,
-        channels: &[Statement<'a>],
-    ) -> Result<(), PlanFault> {
+    /// Reads the lines of all channels.
+    #[tactic(auto, using(crate::proofs::Joins::join_more, crate::proofs::Joins::none_join))]
+    fn read_channels(&mut self, alloc: Global, channels: &[Statement<'a>]) -> Result<(), PlanFault>
+        ensures { OnOk result (AllJoin self.new) }
+    {
+        self.channels.clear();
         for channel in channels {
             at(channel.line, self.read_channel(alloc, channel))?;
         }
@@ -541,7 +559,9 @@ impl<'a> Reader<'a> {
 }
 
 /// Returns a fault with its line.
-fn at<T: Drop>(line: u64, done: Result<T, Why>) -> Result<T, PlanFault> {
+fn at<T: Drop>(line: u64, done: Result<T, Why>) -> Result<T, PlanFault>
+    ensures { result ≡ with_line line done }
+{
     match done {
         Ok(value) => Ok(value),
         Err(why) => Err(PlanFault { line, why }),
@@ -560,9 +580,11 @@ fn read_lines<'a>(alloc: Global, plan: &'a str) -> Result<Reader<'a>, PlanFault>
     Ok(reader)
 }
 
-/// Reads a plan. None if it has neither a domain nor a channel. The faults name the line and the
-/// word.
-pub fn read_system<'a>(alloc: Global, plan: &'a str) -> Result<Option<System<'a>>, PlanFault> {
+/// Reads a plan. None if it has neither a domain nor a channel. Each channel joins two domains
+/// (`Joins`). The faults name the line and the word.
+pub fn read_system<'a>(alloc: Global, plan: &'a str) -> Result<Option<System<'a>>, PlanFault>
+    ensures { IfOk result (λ o. IfSome o (λ s. AllJoin s)) }
+{
     let Reader {
         alloc: _,
         mut system,

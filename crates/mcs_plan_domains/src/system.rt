@@ -1,4 +1,6 @@
 //! A system of protection domains.
+ghost use Rattle.std.specs.Prelude.{◌≡◌, ◌<◌, true, IfSome, length};
+
 use crate::ends::End;
 use crate::statements::Statement;
 
@@ -91,6 +93,13 @@ impl<'a> Handler<'a> {
 }
 
 impl<'a> Domain<'a> {
+    /// Notes that other domains may call it.
+    pub fn be_called(&mut self)
+        ensures { self.new ≡ record self.old { is_called = true } }
+    {
+        self.is_called = true;
+    }
+
     /// Returns the handler of an event, if there is one.
     pub fn handler(&self, event: Event) -> Option<&Handler<'a>> {
         for handler in &self.handlers {
@@ -113,7 +122,9 @@ impl<'a> Domain<'a> {
 
 impl<'a> System<'a> {
     /// Returns the index of the domain with a name.
-    pub fn find(&self, name: &str) -> Option<usize> {
+    pub fn find(&self, name: &str) -> Option<usize>
+        ensures { IfSome result (λ k. k < length self.now.domains.items) }
+    {
         for (place, domain) in self.domains.iter().enumerate() {
             if domain.name == name {
                 return Some(place);
