@@ -207,7 +207,7 @@ fi
 
 if [ -x "$MCSSIM" ]; then
     count=0
-    for file in $(find "$data" -name '*.mcs' | sort); do
+    for file in $(find "$data" -name '*.mcs' -not -path '*/faults/*' | sort); do
         replayed "$file"
         count=$((count + 1))
     done
@@ -223,13 +223,13 @@ done
 echo "$count plans: compared with their scripts"
 if [ -x "$MCSLAB" ]; then
     count=0
-    for file in $(find "$data" tests/lab tests/faults -name '*.mcs' | sort); do
+    for file in $(find "$data" tests/lab -name '*.mcs' | sort); do
         done_so check "$file"
         done_so explore "$file"
         shown_so "$file"
         count=$((count + 1))
     done
-    for plan in $(find "$data" tests/faults -name '*.plan' | sort); do
+    for plan in $(find "$data" -name '*.plan' | sort); do
         done_so compile "$plan"
         told_so "$plan"
         count=$((count + 1))

@@ -130,6 +130,9 @@ def differing():
 def main():
     faults, lines = list(differing()), 0
     for path in sorted(it for kind in KINDS for it in (ROOT / "examples").resolve().rglob("*" + kind)):
+        # what is refused there has words of no form
+        if path.parent.name == "faults":
+            continue
         for number, line in enumerate(path.read_text().split("\n"), 1):
             lines += 1
             faults += [f"{path.name}:{number}: no scope: {word}" for word in bare(KINDS[path.suffix][0], line)]

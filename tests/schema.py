@@ -34,7 +34,7 @@ def sources():
     """The scripts and plans that are read, each once."""
     for folder in ("examples", "tests/lab"):
         for path in sorted((ROOT / folder).resolve().rglob("*")):
-            if path.suffix in (".mcs", ".plan") and path.stat().st_size < 50_000:
+            if path.parent.name != "faults" and path.suffix in (".mcs", ".plan") and path.stat().st_size < 50_000:
                 yield path
 
 

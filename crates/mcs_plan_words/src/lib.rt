@@ -5,7 +5,7 @@
 //! plan ── planned ──> Planned: its script, the lines of which this came, the texts of its steps
 //! script of users ── alignment ──> whether it has the lines that it had
 //! report on the script ── retelling ──> the report by the plan's lines (numbering) and names
-//!     (speaking)
+//!     (speaking), with numbers as the plan spells them (spelling)
 //! fault of a plan ── refusing ──> a line that says why there is no script: advice, entry_forms
 //! ```
 #![tactic(auto)]
@@ -18,6 +18,7 @@ mod planned;
 mod refusing;
 mod retelling;
 mod speaking;
+mod spelling;
 mod stranger;
 
 pub use advice::{message_of, plan_words};

@@ -7,7 +7,8 @@ ghost use Rattle.mcs_plan_words.specs.Scripts.{IsScriptOfPlan};
 use crate::alignment::has_lines_of;
 use crate::numbering::{Form, last_line};
 use crate::retelling::Retold;
-use crate::speaking::step_texts;
+use crate::speaking::{Voice, step_texts};
+use crate::spelling::{Spelling, hexadecimals};
 use crate::stranger::Stranger;
 use mcs_plan_compile::Script;
 use mcs_plan_validate::{CompileFault, Compiled, Loaded, Numbered, align_questions, load};
@@ -18,6 +19,8 @@ use std::alloc::{AllocError, Global};
 #[derive(Drop)]
 pub struct Planned<'a> {
     plan: &'a [u8],
+    /// The values that the plan writes in hexadecimal.
+    hexadecimals: Vec<u64>,
     made: Script,
     /// The script.
     pub script: Numbered,
@@ -113,6 +116,7 @@ fn with_script<'a>(alloc: Global, loaded: Loaded, plan: &'a [u8]) -> Result<Plan
     let text = whole_text(read, &users)?;
     Ok(Planned {
         plan,
+        hexadecimals: hexadecimals(alloc, plan)?,
         made,
         script: Numbered { text, numbers },
         boot,
@@ -170,10 +174,20 @@ impl<'a> Planned<'a> {
         last_line(&self.script.numbers, self.boot, line)
     }
 
+    /// Returns what tells of the script in the plan's words.
+    fn voice(&self) -> Voice<'_> {
+        Voice {
+            script: &self.made,
+            spelling: Spelling {
+                values: &self.hexadecimals,
+            },
+        }
+    }
+
     /// Returns for each line of the script the plan's text of its step; an empty one where it is
     /// none.
     pub fn step_texts(&self, alloc: Global) -> Result<Vec<String>, AllocError> {
-        step_texts(alloc, &self.made, &self.script.text)
+        step_texts(alloc, self.voice(), &self.script.text)
     }
 
     /// Returns a report of this form on a script of the plan as one on the plan.
@@ -185,6 +199,6 @@ impl<'a> Planned<'a> {
         form: Form,
     ) -> Result<Vec<u8>, AllocError> {
         let Numbered { text, numbers } = script;
-        Retold::new(alloc, &self.made, text, numbers, self.plan)?.retell(alloc, report, form)
+        Retold::new(alloc, self.voice(), text, numbers, self.plan)?.retell(alloc, report, form)
     }
 }

@@ -1,7 +1,6 @@
 //! Turns reports on a plan's script into reports on the plan, with its lines and names.
 use crate::numbering::{Form, found_in, number_in};
-use crate::speaking::{Speaker, add_step, add_text, thread_place};
-use mcs_plan_compile::Script;
+use crate::speaking::{Speaker, Voice, add_step, add_text, thread_place};
 use mcs_plan_source::{split_comment, split_words};
 use std::alloc::{AllocError, Global};
 use std::str;
@@ -9,7 +8,7 @@ use std::str;
 /// A plan, and its script.
 #[derive(Drop)]
 pub(crate) struct Retold<'a> {
-    script: &'a Script,
+    voice: Voice<'a>,
     /// The lines of the script, and for each the number of the plan's line from which it came.
     steps: Vec<&'a [u8]>,
     numbers: &'a [u64],
@@ -89,16 +88,16 @@ fn thread_of(line: &str) -> Option<usize> {
 }
 
 impl<'a> Retold<'a> {
-    /// Returns a plan and its script, by the texts of both.
+    /// Returns a plan and its script, by what speaks of it and by the texts of both.
     pub(crate) fn new(
         alloc: Global,
-        script: &'a Script,
+        voice: Voice<'a>,
         text: &'a [u8],
         numbers: &'a [u64],
         plan: &'a [u8],
     ) -> Result<Retold<'a>, AllocError> {
         Ok(Retold {
-            script,
+            voice,
             steps: text.split(|byte| *byte == b'\n').collect(alloc)?,
             numbers,
             lines: plan.split(|byte| *byte == b'\n').collect(alloc)?,
@@ -115,7 +114,7 @@ impl<'a> Retold<'a> {
     ) -> Result<(), AllocError> {
         match wanted_of(line_at(&self.lines, number_in(self.numbers, line))) {
             Some(wanted) => add_words(alloc, to, wanted),
-            None => add_text(alloc, to, self.script, said),
+            None => add_text(alloc, to, self.voice, said),
         }
     }
 
@@ -130,10 +129,10 @@ impl<'a> Retold<'a> {
         let step = line_at(&self.steps, line);
         match said.strip_prefix(step) {
             Some(report) => {
-                add_step(alloc, to, self.script, step)?;
-                add_text(alloc, to, self.script, report)
+                add_step(alloc, to, self.voice, step)?;
+                add_text(alloc, to, self.voice, report)
             }
-            None => add_text(alloc, to, self.script, said),
+            None => add_text(alloc, to, self.voice, said),
         }
     }
 
@@ -154,7 +153,7 @@ impl<'a> Retold<'a> {
             Form::Tap => self.add_wanted(alloc, to, line, said),
             Form::Lines => self.add_report(alloc, to, line, said),
             Form::Json | Form::NoOrders => to.extend_from_slice(said),
-            Form::Orders | Form::State => add_text(alloc, to, self.script, said),
+            Form::Orders | Form::State => add_text(alloc, to, self.voice, said),
         }
     }
 
@@ -166,13 +165,13 @@ impl<'a> Retold<'a> {
         speaker: Speaker<'_>,
         line: Standing<'_>,
     ) -> Result<(), AllocError> {
-        add_text(alloc, to, self.script, line.head.as_bytes())?;
+        add_text(alloc, to, self.voice, line.head.as_bytes())?;
         to.extend_from_slice(b" entry ")?;
         to.extend_from_slice(line.number.as_bytes())?;
         to.extend_from_slice(b" (")?;
         speaker.add_entry(alloc, to, line.entry.as_bytes())?;
         to.extend_from_slice(b")")?;
-        add_text(alloc, to, self.script, line.behind.as_bytes())
+        add_text(alloc, to, self.voice, line.behind.as_bytes())
     }
 
     /// Appends the answers of an entry.
@@ -183,11 +182,11 @@ impl<'a> Retold<'a> {
         speaker: Speaker<'_>,
         line: Row<'_>,
     ) -> Result<(), AllocError> {
-        add_text(alloc, to, self.script, line.head.as_bytes())?;
+        add_text(alloc, to, self.voice, line.head.as_bytes())?;
         to.extend_from_slice(b": ")?;
         speaker.add_entry(alloc, to, line.entry.as_bytes())?;
         to.extend_from_slice(b" ->")?;
-        add_text(alloc, to, self.script, line.behind.as_bytes())
+        add_text(alloc, to, self.voice, line.behind.as_bytes())
     }
 
     /// Adds a line of a report on all orders that begins with a thread.
@@ -198,14 +197,14 @@ impl<'a> Retold<'a> {
         place: usize,
         line: &str,
     ) -> Result<(), AllocError> {
-        let script = self.script;
-        let speaker = Speaker { script, place };
+        let voice = self.voice;
+        let speaker = Speaker { voice, place };
         if let Some(standing) = standing_in(line) {
             return self.add_standing(alloc, to, speaker, standing);
         }
         match row_in(line) {
             Some(row) => self.add_row(alloc, to, speaker, row),
-            None => add_text(alloc, to, script, line.as_bytes()),
+            None => add_text(alloc, to, voice, line.as_bytes()),
         }
     }
 
@@ -221,7 +220,7 @@ impl<'a> Retold<'a> {
         {
             return self.add_of_thread(alloc, to, place, text);
         }
-        add_text(alloc, to, self.script, line)
+        add_text(alloc, to, self.voice, line)
     }
 
     /// Appends a line without a number; `last` was the last number before it.
@@ -238,10 +237,10 @@ impl<'a> Retold<'a> {
             Form::Orders => self.add_of_orders(alloc, to, line),
             Form::Tap if line.starts_with(b"  behind: ") => {
                 to.extend_from_slice(b"  behind: '")?;
-                add_step(alloc, to, self.script, line_at(&self.steps, last))?;
+                add_step(alloc, to, self.voice, line_at(&self.steps, last))?;
                 to.extend_from_slice(b"'")
             }
-            Form::Tap | Form::Lines | Form::State => add_text(alloc, to, self.script, line),
+            Form::Tap | Form::Lines | Form::State => add_text(alloc, to, self.voice, line),
         }
     }
 

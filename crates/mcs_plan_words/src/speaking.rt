@@ -1,19 +1,24 @@
 //! Texts of a plan's script with the plan's names: `fs: recv fs.ep fs.reply` for `0 t3 recv 1 2`,
 //! and `fs.ep.recv` for `e1.recv (fs.ep)`.
+use crate::spelling::{Next, Role, Spelling};
 use mcs_lab_check::object_of;
-use mcs_lab_forms::{Fields, LooksUp, form_of, number_of};
+use mcs_lab_forms::{Field, Fields, LooksUp, form_of, number_of};
 use mcs_plan_compile::Script;
 use mcs_text::Words;
 use std::alloc::{AllocError, Global};
 use std::str;
 
-/// From which number on numbers are written in hexadecimal.
-const LARGE: u64 = 1 << 32;
+/// A plan's script, and how reports on it spell numbers.
+#[derive(Clone, Copy)]
+pub(crate) struct Voice<'a> {
+    pub(crate) script: &'a Script,
+    pub(crate) spelling: Spelling<'a>,
+}
 
 /// A thread of a script, by its index among the threads.
 #[derive(Clone, Copy)]
 pub(crate) struct Speaker<'a> {
-    pub(crate) script: &'a Script,
+    pub(crate) voice: Voice<'a>,
     pub(crate) place: usize,
 }
 
@@ -26,28 +31,36 @@ pub(crate) fn thread_place(word: &[u8]) -> Option<usize> {
     }
 }
 
-/// Adds a number: from 2^32 on in hexadecimal.
-fn add_number(alloc: Global, to: &mut Vec<u8>, number: u64) -> Result<(), AllocError> {
-    let text = if number < LARGE {
-        format!(in alloc; "{number}")?
-    } else {
-        format!(in alloc; "0x{number:x}")?
-    };
-    to.extend_from_slice(text.as_bytes())
+/// Returns what the number of a field of a step is. Only the words of a message repeat, so they
+/// are also behind the last field.
+fn role_of(field: Option<Field<'_>>) -> Role {
+    match field {
+        Some(field) if field.name == b"badge".as_slice() || field.is_last => Role::Value,
+        Some(_) => Role::Count,
+        None => Role::Value,
+    }
 }
 
-/// Adds a word as it is, or as a number.
-fn add_plain(alloc: Global, to: &mut Vec<u8>, word: &[u8]) -> Result<(), AllocError> {
-    match number_of(word) {
-        Some(number) => add_number(alloc, to, number),
-        None => to.extend_from_slice(word),
+impl<'a> Voice<'a> {
+    /// Appends a word as it is, or as a number.
+    fn add_plain(
+        self,
+        alloc: Global,
+        to: &mut Vec<u8>,
+        word: &[u8],
+        role: Role,
+    ) -> Result<(), AllocError> {
+        match number_of(word) {
+            Some(number) => self.spelling.add_number(alloc, to, number, role),
+            None => to.extend_from_slice(word),
+        }
     }
 }
 
 impl<'a> Speaker<'a> {
     /// Returns the name that the thread has for an address, if it has one.
     fn of_address(self, address: u64) -> Option<&'a str> {
-        for named in self.script.laid.tables.get(self.place)?.iter() {
+        for named in self.voice.script.laid.tables.get(self.place)?.iter() {
             if named.address == Some(address) {
                 return Some(named.name.as_str());
             }
@@ -57,7 +70,7 @@ impl<'a> Speaker<'a> {
 
     /// Returns the name that the thread has for an index and a depth, if it has one.
     fn of_place(self, index: u64, depth: u64) -> Option<&'a str> {
-        for named in self.script.laid.tables.get(self.place)?.iter() {
+        for named in self.voice.script.laid.tables.get(self.place)?.iter() {
             if named.place.index == index && u64::from(named.place.depth) == depth {
                 return Some(named.name.as_str());
             }
@@ -72,7 +85,10 @@ impl<'a> Speaker<'a> {
         };
         match self.of_address(address) {
             Some(name) => to.extend_from_slice(name.as_bytes()),
-            None => add_number(alloc, to, address),
+            None => {
+                let spelling = self.voice.spelling;
+                spelling.add_number(alloc, to, address, Role::Count)
+            }
         }
     }
 
@@ -89,9 +105,9 @@ impl<'a> Speaker<'a> {
         {
             return to.extend_from_slice(name.as_bytes());
         }
-        add_plain(alloc, to, word)?;
+        self.voice.add_plain(alloc, to, word, Role::Count)?;
         to.extend_from_slice(b" ")?;
-        add_plain(alloc, to, depth)
+        self.voice.add_plain(alloc, to, depth, Role::Count)
     }
 
     /// Appends the word of an operand, or two for a place.
@@ -103,12 +119,13 @@ impl<'a> Speaker<'a> {
         word: &[u8],
         words: &mut Words<'_>,
     ) -> Result<(), AllocError> {
-        let looks_up = match fields.next_field() {
+        let field = fields.next_field();
+        let looks_up = match field {
             Some(field) => field.looks_up,
             None => LooksUp::Nothing,
         };
         match looks_up {
-            LooksUp::Nothing => add_plain(alloc, to, word),
+            LooksUp::Nothing => self.voice.add_plain(alloc, to, word, role_of(field)),
             LooksUp::Address => self.add_address(alloc, to, word),
             LooksUp::Place => {
                 fields.next_field();
@@ -165,7 +182,7 @@ fn add_head(
 pub(crate) fn add_step(
     alloc: Global,
     to: &mut Vec<u8>,
-    script: &Script,
+    voice: Voice<'_>,
     step: &[u8],
 ) -> Result<(), AllocError> {
     let mut parts = step.splitn(3, |byte| *byte == b' ');
@@ -175,15 +192,15 @@ pub(crate) fn add_step(
     let Some(place) = thread_place(thread) else {
         return to.extend_from_slice(step);
     };
-    add_head(to, script, core, thread)?;
-    Speaker { script, place }.add_entry(alloc, to, entry)
+    add_head(to, voice.script, core, thread)?;
+    Speaker { voice, place }.add_entry(alloc, to, entry)
 }
 
 /// Returns a step of a script with the plan's names; an empty text for a line that is no step.
-fn step_text(alloc: Global, script: &Script, line: &[u8]) -> Result<String, AllocError> {
+fn step_text(alloc: Global, voice: Voice<'_>, line: &[u8]) -> Result<String, AllocError> {
     let mut text = Vec::new(alloc);
     if matches!(line, [b'0'..=b'9', ..]) {
-        add_step(alloc, &mut text, script, line)?;
+        add_step(alloc, &mut text, voice, line)?;
     }
     let mut step = String::new(alloc);
     if let Ok(said) = str::from_utf8(&text) {
@@ -195,12 +212,12 @@ fn step_text(alloc: Global, script: &Script, line: &[u8]) -> Result<String, Allo
 /// Returns for each line of a script the plan's text of its step; an empty one if it is none.
 pub(crate) fn step_texts(
     alloc: Global,
-    script: &Script,
+    voice: Voice<'_>,
     text: &[u8],
 ) -> Result<Vec<String>, AllocError> {
     let mut texts = Vec::new(alloc);
     for line in text.split(|byte| *byte == b'\n') {
-        texts.push(step_text(alloc, script, line)?)?;
+        texts.push(step_text(alloc, voice, line)?)?;
     }
     Ok(texts)
 }
@@ -252,31 +269,30 @@ fn behind_name<'a>(text: &'a [u8], name: &str) -> &'a [u8] {
     inner.strip_prefix(b")".as_slice()).unwrap_or(text)
 }
 
-/// Appends a word of a report, and returns the rest of the text.
-fn add_word<'a>(
+/// Appends a word of a report that names no object, and returns what the next number is.
+fn add_other(
     alloc: Global,
     to: &mut Vec<u8>,
-    script: &Script,
+    voice: Voice<'_>,
+    next: Next,
     word: &[u8],
-    text: &'a [u8],
-) -> Result<&'a [u8], AllocError> {
-    let Some(named) = named_word(script, word) else {
-        add_plain(alloc, to, word)?;
-        return Ok(text);
-    };
-    to.extend_from_slice(named.name.as_bytes())?;
-    to.extend_from_slice(named.end)?;
-    Ok(behind_name(text, named.name))
+) -> Result<Next, AllocError> {
+    voice.add_plain(alloc, to, word, next.role())?;
+    match number_of(word) {
+        Some(_) => Ok(next.after_number()),
+        None => Ok(next.after_word(word)),
+    }
 }
 
 /// Appends a text of a report, with the plan's names for objects.
 pub(crate) fn add_text(
     alloc: Global,
     to: &mut Vec<u8>,
-    script: &Script,
+    voice: Voice<'_>,
     text: &[u8],
 ) -> Result<(), AllocError> {
     let mut left = text;
+    let mut next = Next::Count;
     // each round takes at least one byte
     for _ in 0..text.len() {
         let Some((between, rest)) = left.split_at_checked(run_len(left, false)) else {
@@ -289,7 +305,15 @@ pub(crate) fn add_text(
         if word.is_empty() {
             break;
         }
-        left = add_word(alloc, to, script, word, rest)?;
+        next = next.after_text(between);
+        left = rest;
+        if let Some(named) = named_word(voice.script, word) {
+            to.extend_from_slice(named.name.as_bytes())?;
+            to.extend_from_slice(named.end)?;
+            left = behind_name(rest, named.name);
+        } else {
+            next = add_other(alloc, to, voice, next, word)?;
+        }
     }
     Ok(())
 }

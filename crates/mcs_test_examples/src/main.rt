@@ -1,13 +1,15 @@
 //! Checks and draws the scripts of `examples/` that consist of steps, and compares each picture
 //! with the one beside its script. Scripts about what a kernel reports are only checked. Explores
 //! the scripts of users, compiles the plans, searches a small system, matches patterns, and reports
-//! what is stuck at the end of some scripts. Then replays the scripts of standard input; without
-//! files it does only this, so that `tests/each-allocation.sh` can fail each allocation in turn and
-//! compare the traces. With a number as its only argument, it changes a byte of each plan this many
-//! times, and does nothing else.
+//! what is stuck at the end of some scripts, how a report spells numbers, and what is told of plans
+//! and scripts that are refused. Then replays the scripts of standard input; without files it does
+//! only this, so that `tests/each-allocation.sh` can fail each allocation in turn and compare the
+//! traces. With a number as its only argument, it changes a byte of each plan this many times, and
+//! does nothing else.
 #![tactic(auto)]
 
 mod calls;
+mod faults;
 mod flaws;
 mod forms;
 mod gallery;
@@ -20,9 +22,11 @@ mod places;
 mod plans;
 mod rings;
 mod scripts;
+mod spelled;
 mod stuck;
 mod walks;
 
+use faults::tell_faults;
 use flaws::tell_flaws;
 use gallery::{draw_gallery, draw_lanes};
 use given::tell_given;
@@ -34,6 +38,7 @@ use orders::explore_all;
 use patterns::tell_patterns;
 use plans::{tell_plans, try_changes};
 use rings::tell_rings;
+use spelled::tell_spelled;
 use std::fs;
 use std::io::{self, BufWriter, Write};
 use std::process::ExitCode;
@@ -121,6 +126,8 @@ fn tell_all(rt: &HostRuntime, paths: &[String]) -> Result<bool, LabFault> {
     tell_rings(rt.alloc(), &mut to)?;
     tell_patterns(&mut to)?;
     tell_stuck(rt, &mut to)?;
+    tell_spelled(rt, &mut to)?;
+    tell_faults(rt, &mut to)?;
     to.flush()?;
     Ok(all_hold && reports_hold)
 }

@@ -173,7 +173,7 @@ impl Saves for Replayed {
 }
 
 /// Returns the limits of a search.
-fn wanted(is_exact: bool) -> Wanted {
+pub fn wanted(is_exact: bool) -> Wanted {
     Wanted {
         states: 10_000,
         depth: 1_000,
@@ -329,7 +329,7 @@ fn ask_all<W: Write>(
 }
 
 /// Returns the report on a script.
-fn report_on(alloc: Global, script: &[u8], wanted: Wanted) -> Result<Vec<u8>, ExploreFault> {
+pub fn report_on(alloc: Global, script: &[u8], wanted: Wanted) -> Result<Vec<u8>, ExploreFault> {
     let mut report: Vec<u8> = Vec::new(alloc);
     explore_script(
         alloc,
