@@ -104,16 +104,14 @@ fn add_values(alloc: Global, values: &mut Vec<u64>, line: &str) -> Result<(), Al
     let (code, _) = split_comment(line);
     let words = split_words(alloc, code)?;
     for word in &words {
-        if let Some(value) = hexadecimal_in(word)
-            && !values.contains(&value)
-        {
+        if let Some(value) = hexadecimal_in(word) {
             values.push(value)?;
         }
     }
     Ok(())
 }
 
-/// Returns the values that a plan writes in hexadecimal, each once.
+/// Returns the values that a plan writes in hexadecimal, in ascending order.
 pub(crate) fn hexadecimals(alloc: Global, plan: &[u8]) -> Result<Vec<u64>, AllocError> {
     let mut values = Vec::new(alloc);
     for line in plan.split(|byte| *byte == b'\n') {
@@ -121,10 +119,12 @@ pub(crate) fn hexadecimals(alloc: Global, plan: &[u8]) -> Result<Vec<u64>, Alloc
             add_values(alloc, &mut values, text)?;
         }
     }
+    values.sort_unstable();
     Ok(values)
 }
 
-/// How reports on a plan spell numbers, by the values that the plan writes in hexadecimal.
+/// How reports on a plan spell numbers, by the values that the plan writes in hexadecimal, in
+/// ascending order.
 #[derive(Clone, Copy)]
 pub(crate) struct Spelling<'a> {
     pub(crate) values: &'a [u64],
@@ -133,7 +133,7 @@ pub(crate) struct Spelling<'a> {
 impl Spelling<'_> {
     /// Returns whether a report spells a number in hexadecimal.
     fn is_hexadecimal(self, number: u64, role: Role) -> bool {
-        number >= LARGE || (role == Role::Value && self.values.contains(&number))
+        number >= LARGE || (role == Role::Value && self.values.binary_search(&number).is_ok())
     }
 
     /// Appends a number.
