@@ -2,3 +2,6 @@ mod Replayed
 mod Checked
 mod Explored
 mod Planned
+mod Answered
+mod Picked
+mod Stepped

@@ -15,7 +15,7 @@ use Rattle.mcs_c.specs.Handing.{HandsOut}
 use Rattle.mcs_c.specs.Replays.{after, going, course_of, trace_so_far, is_refused, Adds, Tells, IsReplay, IsStep, IsEnd, Replays, Steps}
 
 -- a run that memory was refused answers that
-not-refused : (h : Going) (c : Course) (r : Result (Unit {0}) SimFault) → h ≡ at_line (ended_by fault.OutOfMemory c) → r ≡ answer_of h.course.fault → is_refused r ≡ false → ⊥
+pub not-refused : (h : Going) (c : Course) (r : Result (Unit {0}) SimFault) → h ≡ at_line (ended_by fault.OutOfMemory c) → r ≡ answer_of h.course.fault → is_refused r ≡ false → ⊥
 not-refused h c r stopped answers well =
     let is : is_refused r ≡ true = ap is_refused (answers ∙ ap (λ (g : Going). answer_of g.course.fault) stopped) in cc
 

@@ -1,7 +1,11 @@
+pub mod Answering
 pub mod Checks
 pub mod Compiles
+pub mod Entering
 pub mod Explores
 pub mod Handing
+pub mod Picking
 pub mod Plans
 pub mod Replays
+pub mod Stepping
 pub mod Verdicts

@@ -3,6 +3,9 @@
 //! ```text
 //! C ── script ──> mcs_replay ── trace ──> C        the whole text
 //! C ── text so far, line ──> mcs_step ── what it adds ──> C
+//! C ── text so far, entry ──> mcs_step_entry ── what it adds; answer, records ──> C
+//! C ── entry ──> mcs_step_line ── its line ──> C
+//! C ── script, core ──> mcs_pick ── the thread that runs next ──> C
 //! C ── script ──> mcs_check ── verdicts ──> C
 //! C ── plan ──> mcs_compile ── script ──> C
 //! C ── plan ──> mcs_number ── the plan's line for each line of the script ──> C
@@ -13,19 +16,25 @@
 //!
 //! No call keeps state or calls C back. `ports/c/mcs.h` declares the same functions for C. Each
 //! writes as much of its text as fits into the caller's buffer, and how it ended into an `McsEnd`;
-//! if an allocation fails, it writes neither.
+//! if an allocation fails, it writes nothing.
 #![tactic(auto)]
 
+mod answering;
 mod checking;
 mod compiling;
+mod entering;
 mod exploring;
 mod handing;
 mod judging;
+mod picking;
 mod plan_orders;
 mod plan_words;
 mod plans;
 mod replaying;
 mod showing;
+mod stepping;
 mod telling;
 
+pub use answering::{McsAnswer, McsRecord};
+pub use entering::McsEntry;
 pub use handing::McsEnd;

@@ -37,7 +37,7 @@ fn begin(alloc: Global, script: &[u8]) -> Result<TracedRun, OutOfMemory>
 
 /// Returns what a line adds to the trace of the script before it.
 #[tactic(auto, using(crate::proofs::Replayed::stepped))]
-fn step(alloc: Global, script: &[u8], line: &[u8]) -> Result<Told, OutOfMemory>
+pub(crate) fn step(alloc: Global, script: &[u8], line: &[u8]) -> Result<Told, OutOfMemory>
     ensures { IfOk result (λ t. IsStep script.now line.now t.text.items t.ended) }
 {
     let mut run = begin(alloc, script)?;
@@ -45,7 +45,7 @@ fn step(alloc: Global, script: &[u8], line: &[u8]) -> Result<Told, OutOfMemory>
 }
 
 /// Returns the status and the end of a call after this result of a run, with a text of this length.
-fn ending(ended: Result<(), SimFault>, length: usize) -> (u32, McsEnd)
+pub(crate) fn ending(ended: Result<(), SimFault>, length: usize) -> (u32, McsEnd)
     ensures ends { IsEnd ended result.0 result.1 }
     ensures length { result.1.length ≡ length }
 {
@@ -73,7 +73,7 @@ fn ending(ended: Result<(), SimFault>, length: usize) -> (u32, McsEnd)
 }
 
 /// Hands a text out, with how its run ended, and returns the status.
-fn finish(told: &Told, out: &mut [u8], end: &mut McsEnd) -> u32
+pub(crate) fn finish(told: &Told, out: &mut [u8], end: &mut McsEnd) -> u32
     ensures wrote { HandsOut told.now.text.items out.old out.new end.new.length }
     ensures ends { IsEnd told.now.ended result end.new }
 {

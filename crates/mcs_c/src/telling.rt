@@ -14,7 +14,7 @@ pub(crate) struct Told {
 }
 
 /// Returns whether memory was refused.
-fn is_refused(ended: Result<(), SimFault>) -> bool
+pub(crate) fn is_refused(ended: Result<(), SimFault>) -> bool
     ensures { result ≡ is_refused ended }
 {
     match ended {

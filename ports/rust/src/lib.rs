@@ -5,15 +5,18 @@
 //! script ── why, state, draw ──> what did nothing, JSON, SVG
 //! plan ── compile ──> script          script of users ── explore, search ──> report, with scripts
 //! plan ── check_plan, why_plan, .. ──> the same in the plan's words
-//! Run: lines ── take ──> what each adds to the trace
+//! Run: lines ── take ──> what each adds to the trace; entries ── enter ──> also answer, records
+//! script, core ── pick ──> the thread that runs next
 //! ```
 //!
 //! The calls are those of `ports/c/mcs.h`, which `ports/README.md` describes. They are proved; this
 //! crate is not, and its tests are in `tests/`.
 
+mod entry;
 pub mod raw;
 mod run;
 
+pub use entry::{Answer, Brought, Entry, Key};
 pub use run::Run;
 
 use std::fmt;
@@ -112,6 +115,18 @@ fn called(call: Call, text: &[u8]) -> Result<Report, Error> {
 /// Replays a script of steps, and returns its trace, as `mcssim replay` does.
 pub fn replay(script: &[u8]) -> Result<Report, Error> {
     called(raw::mcs_replay, script)
+}
+
+/// Returns the thread that a core runs next after a script, by its serial, if there is one; and how
+/// the replay of the script ended.
+pub fn pick(script: &[u8], core: u8) -> Result<(Option<u32>, Ended), Error> {
+    let mut thread = 0;
+    let mut end = raw::mcs_end::default();
+    // SAFETY: as in `called`.
+    let status =
+        unsafe { raw::mcs_pick(script.as_ptr(), script.len(), core, &mut thread, &mut end) };
+    let ended = ended(status, end)?;
+    Ok((Some(thread).filter(|thread| *thread != 0), ended))
 }
 
 /// Checks what a script says of its steps, and returns the verdicts, as `mcslab check` does.

@@ -1,5 +1,9 @@
 //! A script that is taken line by line.
-use crate::{Ended, Error, Report, raw, room_for, whole};
+use crate::{Answer, Brought, Ended, Entry, Error, Report, pick, raw, room_for, whole};
+use std::cell::RefCell;
+
+/// How many records a step may bring.
+const RECORDS: usize = 4 * 256 + 32;
 
 /// A run of the simulator: the lines that it took. Each call replays them, so that a run of n lines
 /// costs the square of n.
@@ -48,6 +52,51 @@ impl Run {
             self.script.extend_from_slice(&bytes);
         }
         Ok(report)
+    }
+
+    /// Takes the step that an entry says, and returns what it adds to the trace, and what it
+    /// brought. An entry that is refused, or for which the book is full, is not taken.
+    pub fn enter(&mut self, entry: &Entry<'_>) -> Result<(Report, Brought), Error> {
+        let script = &self.script;
+        let entry = entry.raw();
+        let empty = raw::mcs_answer {
+            kind: 0,
+            count: 0,
+            records: 0,
+            words: [0; raw::MCS_ANSWER_WORDS],
+        };
+        let kept = RefCell::new((empty, vec![raw::mcs_record::default(); RECORDS]));
+        // SAFETY: as in `called`; the answer and the records are borrowed alone, too.
+        let report = whole(room_for(0), |out, end| unsafe {
+            let (answer, records) = &mut *kept.borrow_mut();
+            raw::mcs_step_entry(
+                script.as_ptr(),
+                script.len(),
+                &entry,
+                answer,
+                records.as_mut_ptr(),
+                records.len(),
+                out.as_mut_ptr(),
+                out.len(),
+                end,
+            )
+        })?;
+        if report.ended == Ended::Done {
+            // SAFETY: as in `called`.
+            let line = whole(room_for(0), |out, end| unsafe {
+                raw::mcs_step_line(&entry, out.as_mut_ptr(), out.len(), end)
+            })?;
+            self.script.extend_from_slice(&line.text);
+        }
+        let (answer, mut records) = kept.into_inner();
+        records.truncate(answer.records);
+        let answer = Answer::of(&answer);
+        Ok((report, Brought { answer, records }))
+    }
+
+    /// Returns the thread that a core runs next, by its serial, if there is one.
+    pub fn pick(&self, core: u8) -> Result<Option<u32>, Error> {
+        pick(&self.script, core).map(|(thread, _)| thread)
     }
 
     /// Returns how the script ends here, and what its end adds to the trace: the boot, where no step

@@ -1,7 +1,7 @@
 //! The calls of the library, each once where all is well, and where a line is refused.
 use mcs_sys::{
-    Ended, Error, Report, Run, check, check_plan, compile, draw_plan, explore, explore_plan,
-    replay, search_plan, state_plan, why_plan,
+    Answer, Ended, Entry, Error, Key, Report, Run, check, check_plan, compile, draw_plan, explore,
+    explore_plan, replay, search_plan, state_plan, why_plan,
 };
 
 const BOOT: &str = "cores 1
@@ -86,6 +86,49 @@ fn a_run_goes_line_by_line() {
     }
     assert_eq!(run.script(), script().as_bytes());
     assert_eq!(told(run.end()), (String::new(), Ended::Done));
+}
+
+#[test]
+fn a_run_goes_entry_by_entry() {
+    let mut run = Run::new();
+    for line in BOOT.lines() {
+        run.take(line).unwrap();
+    }
+    assert_eq!(run.pick(0), Ok(Some(2)));
+    let entries: [(u32, Key, &[u64]); 3] = [
+        (2, Key::Recv, &[1, 2]),
+        (1, Key::Call, &[1, 1, 16]),
+        (2, Key::ReplyRecv, &[1, 2, 7, 17]),
+    ];
+    let mut before = BOOT;
+    for ((thread, key, words), (step, added)) in entries.into_iter().zip(STEPS) {
+        let entry = Entry {
+            core: 0,
+            thread,
+            key,
+            words,
+        };
+        let (report, brought) = run.enter(&entry).unwrap();
+        assert_eq!(
+            told(Ok(report)),
+            (format!("{before}{step}{added}"), Ended::Done)
+        );
+        assert_eq!(brought.answer, Some(Answer::Waits));
+        assert_eq!(brought.records.len(), added.matches('+').count());
+        before = "";
+    }
+    assert_eq!(run.script(), script().as_bytes());
+    assert_eq!(run.pick(0), Ok(Some(1)));
+    let entry = Entry {
+        core: 0,
+        thread: 1,
+        key: Key::Send,
+        words: &[0; 125],
+    };
+    let (report, brought) = run.enter(&entry).unwrap();
+    assert_eq!(report.ended, Ended::Refused { line: 0, fault: 15 });
+    assert_eq!((brought.answer, brought.records.len()), (None, 0));
+    assert_eq!(run.script(), script().as_bytes());
 }
 
 #[test]

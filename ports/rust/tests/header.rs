@@ -1,5 +1,5 @@
 //! `raw` declares what `mcs.h` does.
-use mcs_sys::raw;
+use mcs_sys::{Key, raw};
 use std::mem::{offset_of, size_of};
 
 const HEADER: &str = include_str!("../../c/mcs.h");
@@ -7,7 +7,8 @@ const RAW: &str = include_str!("../src/raw.rs");
 
 #[test]
 fn statuses_are_those_of_the_header() {
-    let all: Vec<(&str, u32)> = HEADER
+    let statuses = HEADER.split("} mcs_end;").next().unwrap();
+    let all: Vec<(&str, u32)> = statuses
         .lines()
         .filter_map(|line| line.trim().trim_end_matches(',').split_once(" = "))
         .map(|(name, value)| (name, value.parse().unwrap()))
@@ -45,11 +46,12 @@ fn functions<'a>(
 
 #[test]
 fn functions_are_those_of_the_header() {
-    let in_c = functions(HEADER, "uint32_t ", |p| {
+    let declared = HEADER.split("} mcs_record;").nth(1).unwrap();
+    let in_c = functions(declared, "\nuint32_t ", |p| {
         p.rsplit([' ', '*']).next().unwrap()
     });
     let in_rust = functions(RAW, "pub fn ", |p| p.split(':').next().unwrap());
-    assert_eq!(in_c.len(), 16);
+    assert_eq!(in_c.len(), 19);
     assert_eq!(in_c, in_rust);
 }
 
@@ -59,4 +61,29 @@ fn an_end_lies_as_in_c() {
     assert_eq!(offset_of!(raw::mcs_end, length), 0);
     assert_eq!(offset_of!(raw::mcs_end, line), 8);
     assert_eq!(offset_of!(raw::mcs_end, fault), 16);
+}
+
+#[test]
+fn keys_are_those_of_the_header() {
+    let keys = HEADER.split("MCS_SEND = 1,").nth(1).unwrap();
+    let keys = keys.split("};").next().unwrap();
+    assert_eq!(keys.matches("MCS_").count() + 1, Key::NbSendWait as usize);
+    assert!(
+        keys.trim_end()
+            .rsplit("MCS_")
+            .next()
+            .unwrap()
+            .starts_with("NBSENDWAIT")
+    );
+}
+
+#[test]
+fn structs_lie_as_in_c() {
+    assert_eq!(size_of::<raw::mcs_entry>(), 16 + 8 * 124);
+    assert_eq!(offset_of!(raw::mcs_entry, words), 16);
+    assert_eq!(size_of::<raw::mcs_answer>(), 16 + 8 * 122);
+    assert_eq!(offset_of!(raw::mcs_answer, records), 8);
+    assert_eq!(offset_of!(raw::mcs_answer, words), 16);
+    assert_eq!(size_of::<raw::mcs_record>(), 16);
+    assert_eq!(offset_of!(raw::mcs_record, letter), 8);
 }
