@@ -2,7 +2,8 @@
 # The library for C, seL4's calls over it, and its calls from Rust: builds crates/mcs_c, compiles
 # ports/ and runs its tests.
 #   sh tests/c.sh
-# Needs a C compiler (CC, or gcc, or clang); says what it skips. These are taken where they are set:
+# Needs a C compiler (CC, or gcc, or clang). The last line is 'N passed, M failed', and what was
+# skipped. These are taken where they are set:
 #   LIBMCS  the archive of mcs_c, in the place of what `rt lib` builds (proved, which may take long)
 #   MCSSIM  the simulator, else crates/mcssim/out/mcssim; without it no trace is compared
 #   MCSLAB  the checker, else crates/mcslab/out/mcslab; without it scripts of plans alone are
@@ -12,21 +13,41 @@
 set -u
 cd "$(dirname "$0")/.." || exit 1
 top=$PWD
+passed=0
 failed=0
-skipped=0
+skipped=
 fail() {
     echo "FAILED: $*"
     failed=$((failed + 1))
 }
+pass() {
+    passed=$((passed + 1))
+}
 skip() {
     echo "skipped: $*"
-    skipped=$((skipped + 1))
+    skipped="$skipped${skipped:+; }$*"
+}
+# holds WHAT COMMAND..: counts whether a command succeeds
+holds() {
+    what=$1
+    shift
+    if "$@"; then
+        pass
+    else
+        fail "$what"
+    fi
+}
+# summary: the last line, with what was skipped; the status
+summary() {
+    echo "$passed passed, $failed failed${skipped:+, skipped: $skipped}"
+    [ $failed = 0 ]
 }
 
 CC=${CC:-$(command -v gcc || command -v clang || true)}
 if [ -z "$CC" ]; then
-    skip "all tests of C: there is no C compiler"
-    exit 0
+    skip "all tests of C, without a C compiler"
+    summary
+    exit
 fi
 KIT=${KIT:-$(dirname "$(dirname "$(readlink -f "$(command -v rt)")")")}
 HEAP=$KIT/c/liblibc_c.a
@@ -53,6 +74,7 @@ make() {
     layer="$top/ports/sel4sim/sel4sim.c $LIBMCS $HEAP"
     $CC $flags -o "$to/tool" ports/c/tool.c "$LIBMCS" "$HEAP" &&
         $CC $flags -o "$to/calls" -Wl,--wrap=malloc -Wl,--wrap=realloc ports/c/calls.c "$LIBMCS" "$HEAP" &&
+        $CC $flags -o "$to/entries" -Wl,--wrap=malloc -Wl,--wrap=realloc ports/c/entries.c "$LIBMCS" "$HEAP" &&
         $CC $flags -o "$to/ten_lines" "$examples/ten_lines.c" $layer &&
         $CC $flags -o "$to/overrun" "$examples/overrun.c" $layer &&
         $CC $flags -o "$to/layer" "$examples/layer.c" $layer &&
@@ -72,7 +94,7 @@ replayed() {
     for how in replay steps; do
         "$room/plain/tool" $how <"$1" >"$room/got" 2>"$room/got.err"
         got=$?
-        cmp -s "$room/want" "$room/got" && [ $want = $got ] && cmp -s "$room/want.err" "$room/got.err" ||
+        cmp -s "$room/want" "$room/got" && [ $want = $got ] && cmp -s "$room/want.err" "$room/got.err" && pass ||
             fail "$1 $how: the library gives another trace, status or fault ($got, not $want)"
     done
 }
@@ -84,7 +106,7 @@ done_so() {
     want=$?
     "$room/plain/tool" "$1" <"$2" >"$room/got" 2>"$room/got.err"
     got=$?
-    cmp -s "$room/want" "$room/got" && [ $want = $got ] || fail "$1 $2: the library gives another text or status ($got, not $want)"
+    cmp -s "$room/want" "$room/got" && [ $want = $got ] && pass || fail "$1 $2: the library gives another text or status ($got, not $want)"
     [ "$want" != 2 ] || [ "$1" = check ] || [ "$(line_in "$room/want.err")" = "$(line_in "$room/got.err")" ] ||
         fail "$1 $2: the library refuses another line"
 }
@@ -96,7 +118,7 @@ shown_so() {
         want=$?
         "$room/plain/tool" ${how%% *} <"$1" >"$room/got" 2>/dev/null
         got=$?
-        cmp -s "$room/want" "$room/got" && [ $want = $got ] || fail "$how $1: the library gives another text or status ($got, not $want)"
+        cmp -s "$room/want" "$room/got" && [ $want = $got ] && pass || fail "$how $1: the library gives another text or status ($got, not $want)"
     done
 }
 
@@ -110,7 +132,7 @@ told_so() {
         [ $want != 64 ] || continue
         "$room/plain/tool" ${how%% *}_plan "$(number_for "$how")" <"$1" >"$room/got" 2>"$room/got.err"
         got=$?
-        cmp -s "$room/want" "$room/got" && [ $want = $got ] || fail "$how $1: the library gives another text or status ($got, not $want)"
+        cmp -s "$room/want" "$room/got" && [ $want = $got ] && pass || fail "$how $1: the library gives another text or status ($got, not $want)"
         [ "$want" != 2 ] || [ "$how" != explore ] || [ "$(line_in "$room/want.err")" = "$(line_in "$room/got.err")" ] ||
             fail "$how $1: the library refuses another line"
     done
@@ -130,10 +152,14 @@ line_in() {
     sed -n '1s/^\(mcslab: \)\{0,1\}line \([0-9]*\): .*/\2/p; 1s/^[^ ]*:\([0-9]*\): .*/\1/p' "$1"
 }
 
-# back FILE: a trace that mcssim gives back byte for byte
+# given_back FILE: mcssim gives a trace back byte for byte
+given_back() {
+    "$MCSSIM" replay <"$1" | cmp -s - "$1"
+}
+
+# back FILE: the same, where mcssim is there
 back() {
-    [ -x "$MCSSIM" ] || return 0
-    "$MCSSIM" replay <"$1" | cmp -s - "$1" || fail "$1: mcssim does not give the trace back"
+    [ ! -x "$MCSSIM" ] || holds "$1: mcssim does not give the trace back" given_back "$1"
 }
 
 # run NAME TOOL..: the tests of one folder of programs, each under a tool, if one is named
@@ -141,25 +167,35 @@ run() {
     by=$1
     to=$room/$1
     shift
-    "$@" "$to/calls" || fail "$by: the calls of mcs.h"
-    "$@" "$to/layer" || fail "$by: the layer"
-    "$@" "$to/ten_lines" || fail "$by: the test in ten lines"
-    "$@" "$to/microkit" || fail "$by: Microkit's handlers"
-    # each order is a process of its own: but in the plain programs, a few
-    few=
-    [ "$by" = plain ] || few="explore 3"
-    "$@" "$to/mended" $few || fail "$by: the mended server"
-    "$@" "$to/files" "$room/stuck.mcs" && fail "$by: no seed finds the deadlock"
+    # each order is a process of its own, and each step a replay: but in the plain programs, a few
+    few="explore 3"
+    scripts=$data/first-run.mcs
+    if [ "$by" = plain ]; then
+        few=
+        scripts=$(find "$data" -name '*.mcs' | sort)
+    fi
+    holds "$by: the calls of mcs.h" "$@" "$to/calls"
+    holds "$by: entries as structs" "$@" "$to/entries" $scripts
+    holds "$by: the layer" "$@" "$to/layer"
+    holds "$by: the test in ten lines" "$@" "$to/ten_lines"
+    holds "$by: Microkit's handlers" "$@" "$to/microkit"
+    holds "$by: the mended server" "$@" "$to/mended" $few
+    holds "$by: the seeds find the deadlock" fails "$@" "$to/files" "$room/stuck.mcs"
     back "$room/stuck.mcs"
     [ $# = 0 ] || return 0
-    "$to/files" explore 100 "$room/order.mcs" && fail "$by: no order finds the deadlock"
+    holds "$by: the search finds the deadlock" fails "$to/files" explore 100 "$room/order.mcs"
     back "$room/order.mcs"
+}
+
+# fails COMMAND..: a command does not succeed
+fails() {
+    ! "$@"
 }
 
 # finds WORDS: what a tool wrote names a write behind a block, as the program that has one was run
 # by it
 finds() {
-    grep -q "$1" "$room/overrun.err" || fail "a write behind a block is not found: $1"
+    grep -q "$1" "$room/overrun.err" && pass || fail "a write behind a block is not found: $1"
 }
 
 make plain -O2 || exit 1
@@ -202,7 +238,7 @@ int main(void) { seL4_Yield(); return 0; }' >"$room/yield.c"
 if $CC $strict -o "$room/yield" "$room/yield.c" ports/sel4sim/sel4sim.c "$LIBMCS" "$HEAP" 2>"$room/yield.err"; then
     fail "a call that is not simulated links"
 else
-    grep -q 'seL4_Yield' "$room/yield.err" || fail "the linker does not name what is not simulated"
+    grep -q 'seL4_Yield' "$room/yield.err" && pass || fail "the linker does not name what is not simulated"
 fi
 
 if [ -x "$MCSSIM" ]; then
@@ -217,7 +253,7 @@ fi
 count=0
 for plan in "$data"/gallery/*.plan "$data"/plans/*.plan "$data"/microkit/*.plan; do
     [ -f "${plan%.plan}.mcs" ] || continue
-    "$room/plain/tool" compile <"$plan" | cmp -s - "${plan%.plan}.mcs" || fail "compile $plan: another script than the one beside it"
+    "$room/plain/tool" compile <"$plan" | cmp -s - "${plan%.plan}.mcs" && pass || fail "compile $plan: another script than the one beside it"
     count=$((count + 1))
 done
 echo "$count plans: compared with their scripts"
@@ -239,7 +275,7 @@ fi
 
 if command -v cargo >/dev/null; then
     archive=$(readlink -f "$LIBMCS")
-    (cd ports/rust && CARGO_TARGET_DIR=$room/rust LIBMCS=$archive LIBHEAP=$HEAP cargo test --offline --quiet) >"$room/rust.out" 2>&1 || {
+    (cd ports/rust && CARGO_TARGET_DIR=$room/rust LIBMCS=$archive LIBHEAP=$HEAP cargo test --offline --quiet) >"$room/rust.out" 2>&1 && pass || {
         cat "$room/rust.out"
         fail "the calls from Rust"
     }
@@ -266,5 +302,4 @@ report() {
 report "the library" "$(seconds "$room/long.mcs" "$room/plain/tool" replay)"
 [ -x "$MCSSIM" ] && report "mcssim replay" "$(seconds "$room/long.mcs" "$MCSSIM" replay)"
 
-echo "$failed failed, $skipped skipped"
-[ $failed = 0 ]
+summary

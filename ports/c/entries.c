@@ -187,13 +187,13 @@ static void take_both(const char *script, size_t at, size_t length, const char *
 /* The pick of each core: it may enter there, and where there is none, no thread may. */
 static void picks(const char *script, size_t length, const char *where) {
     static uint8_t out[ROOM];
-    for (uint8_t core = 0; core < 3; core++) {
+    for (uint8_t core = 0; core < 2; core++) {
         uint32_t thread = 9999;
         mcs_end end = {9, 9, 9};
         if (mcs_pick(bytes(script), length, core, &thread, &end) != MCS_OK)
             return;
         expect(end.length == 0 && !end.line && !end.fault, "the end of a pick", where);
-        for (uint32_t t = 1; t <= 8; t++) {
+        for (uint32_t t = 1; t <= 4; t++) {
             mcs_entry entry = {core, t, MCS_NBWAIT, 1, {~(uint64_t)0}};
             mcs_answer answer;
             uint32_t status = mcs_step_entry(bytes(script), length, &entry, &answer, NULL, 0, out, ROOM, &end);

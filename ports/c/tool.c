@@ -1,16 +1,18 @@
 /* tool: the calls of mcs.h as commands, which read the standard input and write their text:
  *
  *   tool replay | steps | check | why | state | draw | compile | number | explore | search [STATES]
+ *   tool pick [CORE]
  *   tool check_plan | why_plan | state_plan [LINE] | draw_plan | explore_plan | search_plan [STATES]
  *
- * With `steps` each line is a call of mcs_step, and the text is what these add. The exit status is
+ * With `steps` each line is a call of mcs_step, and the text is what these add. With `pick` it is
+ * the name of the thread that the core runs next (0 where none is named), or `-`. The exit status is
  * that of the call. A line that says why compile or explore has no text goes to standard error. */
 #include "mcs.h"
 #include <stdio.h>
 #include <stdlib.h>
 #include <string.h>
 
-/* `number` is how many states are found at most, or the line of a plan. */
+/* `number` is how many states are found at most, or the line of a plan, or a core. */
 struct command {
     const char *name;
     uint64_t number;
@@ -123,6 +125,17 @@ static uint32_t call_steps(const struct command *command, const uint8_t *script,
     return status ? status : call(command, script, n, (const uint8_t *)"", 0, end);
 }
 
+/* Writes which thread a core runs next. */
+static uint32_t call_pick(uint8_t core, const uint8_t *script, size_t n, mcs_end *end) {
+    uint32_t thread = 0;
+    uint32_t status = mcs_pick(script, n, core, &thread, end);
+    if (status == MCS_OK && thread)
+        printf("t%lu\n", (unsigned long)thread);
+    else if (status == MCS_OK)
+        puts("-");
+    return status;
+}
+
 int main(int count, char **words) {
     struct command command = {count > 1 ? words[1] : "replay", count > 2 ? strtoull(words[2], NULL, 10) : 1000000};
     size_t n;
@@ -133,6 +146,8 @@ int main(int count, char **words) {
         return MCS_NO_MEMORY;
     if (is(&command, "steps"))
         status = call_steps(&command, text, n, &end);
+    else if (is(&command, "pick"))
+        status = call_pick(count > 2 ? (uint8_t)command.number : 0, text, n, &end);
     else
         status = call(&command, text, n, NULL, 0, &end);
     if (status == MCS_REFUSED && (is(&command, "replay") || is(&command, "steps")))

@@ -633,6 +633,15 @@ bool sel4sim_says(const char *question) {
     return status == MCS_OK;
 }
 
+int sel4sim_next(uint8_t core) {
+    mcs_end end = {0, 0, 0};
+    uint32_t thread = 0;
+    uint32_t status = mcs_pick((const uint8_t *)script.bytes, script.length, core, &thread, &end);
+    if (status != MCS_OK)
+        fail("a pick is refused memory, or a line of the boot is refused");
+    return (int)thread;
+}
+
 int sel4sim_current(void) {
     return current ? serial_of(current) : 0;
 }

@@ -218,6 +218,7 @@ int main(void) {
     assert(run(calls_nobody, nothing, "1") == SEL4SIM_STUCK && sel4sim_is_stuck(1));
     assert(sel4sim_says("t1 waits e1.send") && sel4sim_says("e1.send t1") && sel4sim_says("t2 running"));
     assert(!sel4sim_says("t1 running") && !sel4sim_says("e1.recv t2") && sel4sim_says("s1 held t1"));
+    assert(sel4sim_next(0) == 2 && sel4sim_next(1) == 0);
     assert(run(points, nothing, "12") == SEL4SIM_DONE);
     sel4sim_boot("cores 1\nbad\n");
     assert(sel4sim_run(0) == SEL4SIM_DONE && !sel4sim_stuck());
