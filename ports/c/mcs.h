@@ -19,7 +19,7 @@
  *   3 MCS_STOPPED    the budget ended the search, and nothing failed so far (mcs_explore,
  *                    mcs_search; so for plans)
  *   5 MCS_BOOK_FULL  the book is full at a step
- *   6 MCS_NO_MEMORY  memory is refused: nothing is written, neither at `out` nor at `end` or elsewhere
+ *   6 MCS_NO_MEMORY  memory is refused: nothing is written, at `out`, at `end` or elsewhere
  *   7 MCS_WRONG      never; it would be a fault of the library
  *
  * end->line and end->fault are 0 but after 2. The fault is one of these numbers:
