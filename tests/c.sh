@@ -172,7 +172,7 @@ run() {
     scripts=$data/first-run.mcs
     if [ "$by" = plain ]; then
         few=
-        scripts=$(find "$data" -name '*.mcs' | sort)
+        scripts=$(find "$data" -name '*.mcs' -not -path '*/faults/*' | sort)
     fi
     holds "$by: the calls of mcs.h" "$@" "$to/calls"
     holds "$by: entries as structs" "$@" "$to/entries" $scripts
