@@ -59,7 +59,7 @@ typedef struct {
     uint64_t fault; /* why it is refused, 1 to 16; else 0 */
 } mcs_end;
 
-/* The keys of entries, with the words of each: the numbers behind the key, in the order of the form
+/* The keys of entries, with the words of each: the numbers after the key, in the order of the form
  * (docs/FORMS.md). Rights are a sum of 1 Write, 2 Read, 4 Grant, 8 GrantReply. A message is a label
  * and up to 120 words. */
 enum {
@@ -226,17 +226,17 @@ uint32_t mcs_draw(const uint8_t *script, size_t script_length,
                   uint8_t *out, size_t room, mcs_end *end);
 
 /* The same of a plan, in its own words and lines, as mcslab does with a file NAME.plan: each is
- * mcs_compile, the call of the script, and the text with the plan's names, steps and lines, of which
- * end->line is one. Where no script comes of the plan, the text is that of mcs_compile, for
- * mcs_check_plan behind `Bail out! `. */
+ * mcs_compile, the call of the script, and the text with the plan's names, steps and lines;
+ * end->line is a line of the plan. Where no script comes of the plan, the text is that of
+ * mcs_compile, for mcs_check_plan after `Bail out! `. */
 uint32_t mcs_check_plan(const uint8_t *plan, size_t plan_length,
                         uint8_t *out, size_t room, mcs_end *end);
 
 uint32_t mcs_why_plan(const uint8_t *plan, size_t plan_length,
                       uint8_t *out, size_t room, mcs_end *end);
 
-/* Writes the state after a line of the plan, as `mcslab state --json --at LINE` does; after its last
- * one where the line is 0 or none of the plan's. JSON has the ids of the script. */
+/* Writes the state after a line of the plan, as `mcslab state --json --at LINE` does; after its
+ * last one where the line is 0 or none of the plan's. JSON has the ids of the script. */
 uint32_t mcs_state_plan(const uint8_t *plan, size_t plan_length, uint64_t line,
                         uint8_t *out, size_t room, mcs_end *end);
 

@@ -2,11 +2,13 @@
  *
  *   tool replay | steps | check | why | state | draw | compile | number | explore | search [STATES]
  *   tool pick [CORE]
- *   tool check_plan | why_plan | state_plan [LINE] | draw_plan | explore_plan | search_plan [STATES]
+ *   tool check_plan | why_plan | state_plan [LINE] | draw_plan
+ *   tool explore_plan | search_plan [STATES]
  *
  * With `steps` each line is a call of mcs_step, and the text is what these add. With `pick` it is
- * the name of the thread that the core runs next (0 where none is named), or `-`. The exit status is
- * that of the call. A line that says why compile or explore has no text goes to standard error. */
+ * the name of the thread that the core runs next (0 where none is named), or `-`. The exit status
+ * is that of the call. A line that says why compile or explore has no text goes to standard error.
+ */
 #include "mcs.h"
 #include <stdio.h>
 #include <stdlib.h>

@@ -56,8 +56,8 @@ int sel4sim_fault(int serial);
  * is proved. A text that asks nothing ends the test. */
 bool sel4sim_says(const char *question);
 
-/* The thread that a core runs next, by the rule of the kernel, as its serial; 0 where there is none.
- * mcs_pick answers, which is proved. A thread whose code has ended may still be picked: the kernel
+/* Returns the thread that a core runs next, by the rule of the kernel, as its serial; 0 where there
+ * is none. It asks mcs_pick, which is proved. A thread whose code has ended may still be picked: the kernel
  * knows only calls. */
 int sel4sim_next(uint8_t core);
 
