@@ -88,7 +88,7 @@ abbrev pub newest : ℕ → Option Book → Option Line
 newest n None = None
 newest n (Some b) = if nat_lt n (length b.lines) then line_of_number b (length b.lines) else None
 
--- of what was told as much was written as there was room for, and what is behind it is unchanged
+-- of these as many were written as there was room for, and what follows them is unchanged
 abbrev pub FillsWith : {A : Type 0} → (told old new : List A) → Type 0
 FillsWith told old new = new ≡ take (length old) told ++ drop (length told) old
 

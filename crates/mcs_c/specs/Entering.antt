@@ -1,5 +1,5 @@
 -- The step that an entry of C says: its key is the number of a form, and its words are the numbers
--- that the form has behind the key, in their order.
+-- that the form has after the key, in their order.
 use Rattle.std.specs.Prelude.{◌≡◌, ℕ, ◌+◌, ◌^◌, Bool, ◌&&◌, List, [], ◌∷◌, ◌++◌, length, take, drop, slice_get, slice_index, ◌-◌, Option, Some, None, Result, Ok, Err, nat_lt, nat_le, ◌==◌, if◌then◌else◌}
 use Rattle.mcs_types.specs.Limits.{core_limit, object_limit, word_limit, label_bits}
 use Rattle.mcs_types.specs.Views.{Content}
@@ -141,7 +141,7 @@ entry_of (Some shape) e = if nat_le e.count (length e.words) then entry_said sha
 abbrev pub fits_entrant : McsEntry → Bool
 fits_entrant e = nat_lt e.core core_limit && (nat_le 1 e.thread && nat_le e.thread object_limit)
 
--- who enters
+-- the core and the thread that enter
 abbrev pub entrant_of : McsEntry → Entrant
 entrant_of e = record { core = record { 0 = e.core }; thread = record { kind = Thread; serial = e.thread } }
 
@@ -150,16 +150,16 @@ abbrev pub step_with : Entrant → Result Entry EntryFault → Result Step Entry
 step_with from (Ok entry) = Ok (step_by from entry)
 step_with from (Err f) = Err f
 
--- the step that an entry says: who enters is tested first, then the form, and then its numbers
+-- the step that an entry says: tested first are its core and thread, then its form and its numbers
 unfoldable pub step_said : McsEntry → Result Step EntryFault
 step_said e = if fits_entrant e then step_with (entrant_of e) (entry_of (shape_of e.key) e) else Err Range
 
--- a line with that of a step behind it
+-- a line followed by that of a step
 abbrev pub step_behind : List ℕ → Result Step EntryFault → Result (List ℕ) EntryFault
 step_behind line (Ok s) = Ok (line ++ step_text s)
 step_behind line (Err f) = Err f
 
--- a line with that of an entry behind it
+-- a line followed by that of an entry
 abbrev pub behind : List ℕ → Entrant → Result Entry EntryFault → Result (List ℕ) EntryFault
 behind line from said = step_behind line (step_with from said)
 

@@ -46,13 +46,13 @@ pub record Spells (said : Result Step EntryFault) (status : ℕ) (old new : List
 abbrev pub line_added : (script line : List ℕ) → Option Line
 line_added script line = newest (line_count (going script).course.stands.book) (after (going script) line).course.stands.book
 
--- an entry was taken after a script: this was told of its step, and this it brought
+-- an entry was taken after a script: this is the text of its step, and this it brought
 abbrev pub HasEntered : (script : List ℕ) → Result Step EntryFault → Result Told EntryFault → Brought → Type 0
 HasEntered script (Ok s) (Ok told) b = IsStep script (step_text s) told.text.items told.ended × IsBrought (line_added script (step_text s)) b
 HasEntered script (Err f) (Err g) b = (g ≡ f) × IsBrought None b
 HasEntered script said told b = ⊥
 
--- what was told of an entry was handed out, or why it says no step
+-- the text of an entry's step was handed out, or why it says no step
 abbrev pub HandsTold : Result Told EntryFault → (status : ℕ) → (old new : List ℕ) → McsEnd → Type 0
 HandsTold (Ok told) status old new end = HandsOut told.text.items old new end.length × IsEnd told.ended status end
 HandsTold (Err f) status old new end = HandsOut [] old new end.length × Ends (at_line 0 (entry_fault f)) status end

@@ -52,7 +52,7 @@ pub struct McsEntry {
     pub key: u32,
     /// How many of the words count.
     pub count: u32,
-    /// The numbers behind the key, as the form has them: addresses, indices, depths, the bits of
+    /// The numbers after the key, as the form has them: addresses, indices, depths, the bits of
     /// rights, a badge, a label, words.
     pub words: [u64; ENTRY_WORDS],
 }
@@ -379,7 +379,7 @@ fn write_shape(
     }
 }
 
-/// Returns who enters by an entry.
+/// Returns the core and the thread of an entry.
 fn entrant_of(entry: &McsEntry) -> Result<Entrant, EntryFault>
     ensures { Gives (λ e. e) result (ranged (fits_entrant entry.now) (entrant_of entry.now)) }
 {

@@ -1,4 +1,4 @@
-//! What is told of the script of a plan, in the plan's words and lines.
+//! Reports on the script of a plan, in the plan's words and lines.
 ghost use Rattle.std.specs.Prelude.{IfOk, IfSome};
 ghost use Rattle.mcs_c.specs.Plans.{IsInPlan, IsOfOtherKind};
 

@@ -1,4 +1,4 @@
-//! What is told of a plan, in its own words: its verdicts, why its steps did nothing, the state,
+//! Reports on a plan, in its own words: its verdicts, why its steps did nothing, the state,
 //! and its picture.
 ghost use Rattle.std.specs.Prelude.{◌≡◌, ◌⊎◌, IfOk};
 ghost use Rattle.mcs_plan_words.specs.Scripts.{IsScriptOfPlan};

@@ -162,7 +162,7 @@ fn refuse(fault: EntryFault, out: &mut [u8], end: &mut McsEnd) -> u32
 }
 
 impl Entered {
-    /// Writes what was told, and returns the status.
+    /// Writes the text of the step, or why there is none, and returns the status.
     fn hand_told(&self, out: &mut [u8], end: &mut McsEnd) -> u32
         ensures { HandsTold self.now.told result out.old out.new end.new }
     {

@@ -1,5 +1,5 @@
-//! Plans and scripts that commands refuse, and what is told of them without the hints that `mcslab`
-//! adds to a line of a script. `tests/faults/table.txt` has the calls of `mcslab`.
+//! Plans and scripts that commands refuse, and the messages about them, without the hints that
+//! `mcslab` adds to a line of a script. `tests/faults/table.txt` has the calls of `mcslab`.
 use crate::orders::{report_on, wanted};
 use mcs_explore_questions::ExploreFault;
 use mcs_lab_check::{LabFault, check};
@@ -77,7 +77,7 @@ fn put_fault<W: Write>(to: &mut W, fault: Option<ExploreFault>) -> Result<(), La
     Ok(())
 }
 
-/// Writes what is told of a plan that became a script.
+/// Writes the message about a plan that became a script.
 fn tell_planned<W: Write>(
     alloc: Global,
     to: &mut W,
@@ -97,7 +97,7 @@ fn tell_planned<W: Write>(
     put_fault(to, fault_of(alloc, &script.text, true))
 }
 
-/// Writes what is told of a plan.
+/// Writes the message about a plan.
 fn tell_plan<W: Write>(
     alloc: Global,
     to: &mut W,
@@ -114,7 +114,7 @@ fn tell_plan<W: Write>(
     }
 }
 
-/// Writes what is told of each plan and of each script.
+/// Writes the messages about all plans and scripts.
 pub fn tell_faults<W: Write>(rt: &HostRuntime, to: &mut W) -> Result<(), LabFault> {
     for &(name, reads_users) in PLANS {
         let plan = case_of(rt, name, "plan")?;

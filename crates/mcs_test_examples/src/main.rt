@@ -1,11 +1,11 @@
 //! Checks and draws the scripts of `examples/` that consist of steps, and compares each picture
 //! with the one beside its script. Scripts about what a kernel reports are only checked. Explores
 //! the scripts of users, compiles the plans, searches a small system, matches patterns, and reports
-//! what is stuck at the end of some scripts, how a report spells numbers, and what is told of plans
-//! and scripts that are refused. Then replays the scripts of standard input; without files it does
-//! only this, so that `tests/each-allocation.sh` can fail each allocation in turn and compare the
-//! traces. With a number as its only argument, it changes a byte of each plan this many times, and
-//! does nothing else.
+//! what is stuck at the end of some scripts, how a report spells numbers, and the messages about
+//! plans and scripts that are refused. Then replays the scripts of standard input; without files it
+//! does only this, so that `tests/each-allocation.sh` can fail each allocation in turn and compare
+//! the traces. With a number as its only argument, it changes a byte of each plan this many times,
+//! and does nothing else.
 #![tactic(auto)]
 
 mod calls;
