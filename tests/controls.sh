@@ -44,7 +44,9 @@ for control in crates/*/must-fail/*.control.md crates/*/wrong-bodies/*.control.m
         grep -E ': (no proof: |it is not proved )' "$copy/log" | head -3 || true
         refused=$((refused + 1))
     fi
-    cp -R "$folder/src" "$copy/$folder/"
+    for part in "$folder/src" "$folder/specs"; do
+        if [ -d "$part" ]; then cp -R "$part" "$copy/$folder/"; fi
+    done
 done
 echo "$tried controls, $refused refused"
 [ $refused -eq 0 ]

@@ -149,4 +149,5 @@ def main(words):
         sys.exit(f"gate-table: rt ci ended with status {started.returncode}, so this is not the whole gate")
 
 
-main(sys.argv[1:])
+if __name__ == "__main__":
+    main(sys.argv[1:])

@@ -30,6 +30,8 @@ COMMANDS = {
     "draw --format html": ["draw", "--format", "html"],
     "draw --format mermaid": ["draw", "--format", "mermaid"],
     "explore": ["explore", "--states", "500", "--seconds", "5"],
+    "graph": ["graph", "--states", "500"],
+    "graph --dot": ["graph", "--dot"],
     "walk": ["walk", "--turns", "200"],
     "compile": ["compile"],
     "names": ["names", "-"],

@@ -30,13 +30,13 @@ script=examples/first-run.mcs
 yes | head -n 900002 >"$work/lines.plan"
 yes '# a remark' | head -n 2000002 >"$work/lines.mcs"
 yes '+ joins t1 e1.send' | head -n 2000002 >"$work/trace"
-for command in compile 'check --plan' 'why --plan' 'state --plan' 'json --plan' 'draw --plan' 'explore --plan' 'walk --plan'; do
+for command in compile 'check --plan' 'why --plan' 'state --plan' 'json --plan' 'draw --plan' 'explore --plan' 'graph --plan' 'walk --plan'; do
     # shellcheck disable=SC2086
     ends 2 'mcslab: line 1: more than 4000 bytes in a line' $command </dev/zero
     # shellcheck disable=SC2086
     ends 2 'more than 900000 lines' $command <"$work/lines.plan"
 done
-for command in check why state json draw explore walk; do
+for command in check why state json draw explore graph walk; do
     ends 2 'mcslab: line 1: fault 7: the line is too long' $command </dev/zero
     ends 2 'mcslab: line 2000001: fault 9: too many lines' $command <"$work/lines.mcs"
 done
@@ -58,6 +58,17 @@ rm "$work/lines.plan" "$work/lines.mcs" "$work/trace" "$work/given"
     yes '0 t1 signal 1' | head -n 200000
 } >"$work/names.mcs"
 ends 0 '' why "$work/names.mcs"
+# One name, given again and again and asked as often: what it refers to is not searched.
+for names in 'a a' 'a b'; do
+    # shellcheck disable=SC2086
+    {
+        printf 'cores 1\ncnode 5\nendpoint\ncontext 0\nthread 10 255 c1 59 0 run s1\n'
+        printf '#@ e1 %s\n#@ e1 %s\n' $(yes $names | head -n 16000)
+        echo 'user t1 nbsend 1 1'
+        yes "#! never + closed ${names#* }" | head -n 32000
+    } >"$work/names.mcs"
+    HOSTILE_SECONDS=5 ends 0 '' explore "$work/names.mcs"
+done
 rm "$work/names.mcs"
 
 # A search without an end, with little memory: the report comes with what was found.
@@ -88,7 +99,7 @@ printf 'cores 1\n0 t1 send  %s\n' "$odd" >"$work/blanks.mcs"
 cp examples/refused.mcs "$work/$odd.mcs"
 printf 'x\n' >"$work/$odd.plan"
 for file in "$work"/*.plan "$work"/*.mcs; do
-    for command in check why state json draw explore walk compile names; do
+    for command in check why state json draw explore graph walk compile names; do
         timeout "${HOSTILE_SECONDS:-20}" "$program" $command "$file" >"$work/out" 2>"$work/told" </dev/null || true
         [ $command != check ] && [ $command != why ] || cat "$work/out" >>"$work/told"
         if LC_ALL=C tr -d '\n' <"$work/told" | LC_ALL=C grep -q "[[:cntrl:]]\|$(printf '\342\200\256')"; then

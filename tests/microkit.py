@@ -125,14 +125,25 @@ def check_questions(mcslab):
     return [] if lines == list(ASKED.values()) else ["\n".join(["questions: not as wanted:", *lines, ran.stderr])]
 
 
+def check_limit(mcslab):
+    """As many domains as a script has CNodes, and one more."""
+    faults = []
+    for count, status in (64, 0), (65, 2):
+        plan = "".join(f"pd d{number} prio 1 {{ }}\n" for number in range(count))
+        ran = subprocess.run([mcslab, "compile"], input=plan, capture_output=True, text=True)
+        if ran.returncode != status:
+            faults.append(f"{count} domains: status {ran.returncode}, not {status}: {ran.stderr.strip()}")
+    return faults
+
+
 def main(words):
     writes, words, count = words[:1] == ["--write"], [word for word in words if word != "--write"], 1
     names = sorted(it[: -len(".system")] for it in os.listdir(CASES) if it.endswith(".system"))
     faults = [line for name in names for line in check_case(name, writes)] + check_merged()
     if words:
         more, cases = check_cases(words[0], writes)
-        faults += check_compiled(words[0]) + more + check_questions(words[0])
-        count += cases + 1
+        faults += check_compiled(words[0]) + more + check_questions(words[0]) + check_limit(words[0])
+        count += cases + 2
     print("\n".join(faults + [f"{len(names) + count} passed, 0 failed" if not faults else f"{len(faults)} failed"]))
     return 1 if faults else 0
 

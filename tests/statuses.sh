@@ -41,7 +41,7 @@ bails 'line 2: no form fits'
 ends 2 'tests/lab/no-question.mcs:2: no question' check tests/lab/no-question.mcs
 ends 2 'mcslab: line 2: fault 2: no form fits' check <"$work/refused.mcs"
 ends 2 'mcslab: line 2: fault 2: no form fits' check - <"$work/refused.mcs"
-for command in check why state json draw explore walk compile; do
+for command in check why state json draw explore graph walk compile; do
     ends 8 'read fault' $command <"$work"
 done
 ends 8 'read fault' check <"$work"
@@ -50,6 +50,10 @@ status=0
 "$program" check tests/lab/trace.mcs 2>"$work/told" >/dev/full || status=$?
 [ $status -eq 4 ] && grep -q 'write fault' "$work/told" || { echo "statuses.sh: no write fault, but status $status"; exit 1; }
 ends 3 '' explore --states 2 examples/explore/mutex.mcs
+ends 0 '' graph examples/explore/mutex.mcs
+ends 0 '' graph --dot examples/explore/mutex.mcs
+ends 3 '' graph --states 2 examples/explore/mutex.mcs
+ends 2 "$work/refused.mcs:2: fault 2: no form fits" graph "$work/refused.mcs"
 ends 0 '' walk --seed 7 --turns 5 examples/explore/mutex.mcs
 ends 2 "$work/refused.mcs:2: fault 2: no form fits" walk "$work/refused.mcs"
 ends 64 '-1' walk --seed=-1 examples/explore/mutex.mcs
@@ -57,13 +61,13 @@ ends 1 '' walk --runs 100 examples/explore/dining.mcs
 ends 3 '' walk --runs 100 --turns 50 examples/explore/mutex.mcs
 ends 64 '0' walk --runs 0 examples/explore/mutex.mcs
 ends 0 '' explore examples/programs/passive.plan
-for command in check why state json draw explore walk compile names; do
+for command in check why state json draw explore graph walk compile names; do
     ends 64 'No such file' $command "$work/none" </dev/null
     ends 64 'Is a directory' $command "$work" </dev/null
 done
 if [ "$(id -u)" -ne 0 ]; then
     chmod 0 "$work/closed.mcs"
-    for command in check why state json draw explore walk compile names; do
+    for command in check why state json draw explore graph walk compile names; do
         ends 64 'Permission denied' $command "$work/closed.mcs" </dev/null
     done
 fi

@@ -8,7 +8,7 @@ use Rattle.mcs_packing.specs.declared.entries.PackedEntry.{PackedEntry}
 use Rattle.mcs_packing.specs.declared.heads.Head.{Head}
 use Rattle.mcs_packing.specs.declared.heads.PackedAnswer.{PackedAnswer}
 use Rattle.mcs_packing.specs.declared.packed.Packed.{Packed}
-use Rattle.mcs_packing.specs.Packing.{records_of}
+use Rattle.mcs_packing.specs.Packing.{MOST_FAR, records_of}
 use Rattle.mcs_packing.specs.Heads.{Entered, all_entered}
 use Rattle.mcs_book.specs.Logs.{Log}
 use Rattle.mcs_book.specs.History.{Line, Book}
@@ -31,7 +31,7 @@ pub record HasSpace {Z : Type 0} (hs : Vec Head Z) (ps : Vec Packed Z) (a : Aren
   pub words : vec_len a.words + MOST_WORDS * n ≤ vec_capacity a.words
   pub wide : vec_len a.wide + n ≤ vec_capacity a.wide
   pub named : vec_len ps + n < 2 ^ 32
-  pub named_words : vec_len a.words + MOST_WORDS * n ≤ 3 * 2 ^ 30
+  pub named_words : vec_len a.words + MOST_WORDS * n ≤ MOST_FAR
   pub named_wide : vec_len a.wide + n ≤ 2 ^ 32
 
 -- the lines that the entries cut from the records that begin at a position, the oldest first

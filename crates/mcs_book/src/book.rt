@@ -292,6 +292,15 @@ fn push_packed(
     packed.push_reserved(one);
 }
 
+/// How a message is sent: by whom, to what, in which mode, with which badge.
+#[derive(Clone, Copy)]
+struct Sending {
+    sender: ObjId,
+    endpoint: ObjId,
+    mode: SendMode,
+    badge: Badge,
+}
+
 /// Packs the record of a sent message after the others, as `push_packed` does.
 #[inline(always)]
 fn push_sent(
@@ -299,10 +308,7 @@ fn push_sent(
     packed: &mut Vec<Packed>,
     sent: &mut Vec<u32>,
     place: &mut u32,
-    sender: ObjId,
-    endpoint: ObjId,
-    mode: SendMode,
-    badge: Badge,
+    sending: Sending,
     message: Lent<'_>,
 )
     requires room { HasRoom arena.old 1 }
@@ -310,12 +316,18 @@ fn push_sent(
     requires fit { AllFit packed.old.items arena.old.words.items arena.old.wide.items }
     ensures value { facts packed.new.items arena.new
         ≡ facts packed.old.items arena.old
-        ++ Rec.Sent sender endpoint mode badge message.entry ∷ [] }
+        ++ Rec.Sent sending.sender sending.endpoint sending.mode sending.badge message.entry ∷ [] }
     ensures fit { AllFit packed.new.items arena.new.words.items arena.new.wide.items }
     ensures grew { Grew arena.old arena.new }
     ensures len { vec_len packed.new ≡ vec_len packed.old + 1 }
     ensures capacity { vec_capacity packed.old ≤ vec_capacity packed.new }
 {
+    let Sending {
+        sender,
+        endpoint,
+        mode,
+        badge,
+    } = sending;
     let one = arena.pack_lent_sent(sender, endpoint, mode, badge, message);
     note_place(sent, place, &one);
     packed.push_reserved(one);
@@ -669,10 +681,12 @@ impl Book {
             &mut self.packed,
             &mut self.sent,
             &mut self.place,
-            sender,
-            endpoint,
-            mode,
-            badge,
+            Sending {
+                sender,
+                endpoint,
+                mode,
+                badge,
+            },
             message,
         );
         self.room -= 1;

@@ -31,10 +31,10 @@ within (x ∷ xs) t e u lt is = go (same x.thread t) (within xs t e u) lt is
         let there : u ≡ get_or xs (place xs t) u = subst (λ n. u ≡ get_or (x ∷ xs) n u) (one-add (place xs t)) at in
         rw (one-add (place xs t)) (ap (λ ys. x ∷ ys) (later (omega (arith, low)) there))
 
-behind : (us : List User) (t : ObjId) (e : Entry) → length us ≤ place us t
+after : (us : List User) (t : ObjId) (e : Entry) → length us ≤ place us t
     → us ++ record { thread = t; entries = e ∷ [] } ∷ [] ≡ with_entry us t e
-behind [] t e le = refl
-behind (x ∷ xs) t e le = go (same x.thread t) (behind xs t e) le
+after [] t e le = refl
+after (x ∷ xs) t e le = go (same x.thread t) (after xs t e) le
   where
     go : (v : Bool) → (length xs ≤ place xs t → xs ++ record { thread = t; entries = e ∷ [] } ∷ [] ≡ with_entry xs t e)
         → suc (length xs) ≤ cond (not v) (1 + place xs t) 0
@@ -54,6 +54,6 @@ added-within us t e i u v found at is =
     ∙ within us t e u (ltb-true (place us t) (length us) it.0) here
 
 -- where it has none, there is a list of the entry alone after all others
-pub added-behind : (us : List User) (t : ObjId) (e : Entry) → position (λ (x : User). same x.thread t) us ≡ None
+pub added-after : (us : List User) (t : ObjId) (e : Entry) → position (λ (x : User). same x.thread t) us ≡ None
     → us ++ record { thread = t; entries = e ∷ [] } ∷ [] ≡ with_entry us t e
-added-behind us t e none = behind us t e (grind (arith, nat_tests, none))
+added-after us t e none = after us t e (grind (arith, nat_tests, none))

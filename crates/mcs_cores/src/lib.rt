@@ -13,8 +13,8 @@ mod users;
 pub use gate::{Gate, Open};
 pub use machine::{Machine, SeatsFault};
 pub use mcs_seats::{
-    Answered, Call, CoreSeat, FinishFault, Outcome, Settled, Turned, settle_seats, told_lines,
-    told_of_core,
+    Answered, Call, CoreSeat, FinishFault, Outcome, Settled, Turned, entered_lines,
+    entered_of_core, settle_seats,
 };
 pub use run::RunFault;
 pub use users::Users;

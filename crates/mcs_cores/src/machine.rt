@@ -2,7 +2,7 @@
 ghost use Rattle.std.specs.Prelude.{◌≡◌, ◌≤◌, ◌+◌, [], length, IfOk, IfErr, OnErr, OnOk, IsTrue, ◌↔◌, ◌||◌, is_ok, false};
 ghost use Rattle.mcs_book.specs.History.{IsLegal};
 ghost use Rattle.mcs_book.specs.Fair.{IsFair};
-ghost use Rattle.mcs_seats.specs.Seats.{AreNew, Enters, noted, told_by};
+ghost use Rattle.mcs_seats.specs.Seats.{AreNew, Enters, noted, count_entered_by};
 ghost use Rattle.mcs_seats.specs.Settling.{AllAgree, AreCounted, Because, HasSeats, HasReason};
 
 use mcs_kernel::{Boot, Kernel};
@@ -266,7 +266,7 @@ impl<G: Ledger, L: Lines> Machine<G, L> {
         ensures boot { IfOk result (λ s. s.boot ≡ boot.now) }
         ensures seats { IfOk result (λ s. HasSeats s seats.items) }
         ensures agree { IfOk result (λ s. AllAgree s seats.items) }
-        ensures counted { IfOk result (λ s. told_by seats.items ≡ length s.lines) }
+        ensures counted { IfOk result (λ s. count_entered_by seats.items ≡ length s.lines) }
         ensures fault { IfErr result (HasReason boot.now seats.items) }
     {
         self.into_locked().settle(alloc, boot, seats)

@@ -68,10 +68,10 @@ impl<G: Ledger, L: Lines, T: Gate> RunContext<'_, G, L, T> {
         kernel: &Kernel<L>,
         ready: CoreSet,
     ) -> CoreSet {
-        let mut told = CoreSet::new();
+        let mut notified = CoreSet::new();
         let waiting = ready.common(&positions.asleep);
         if waiting.is_empty() {
-            return told;
+            return notified;
         }
         for core in 0..CORES {
             let core = CoreId(core);
@@ -79,11 +79,11 @@ impl<G: Ledger, L: Lines, T: Gate> RunContext<'_, G, L, T> {
                 if let Some(turn) = positions.look(kernel, core).pick() {
                     self.shared.tell(rt, core, Next::Enters(turn));
                     positions.asleep.remove(core);
-                    told.insert(core);
+                    notified.insert(core);
                 }
             }
         }
-        told
+        notified
     }
 
     /// Decides what the core does next, and which cores have to be woken. If no core can pick
@@ -102,24 +102,24 @@ impl<G: Ledger, L: Lines, T: Gate> RunContext<'_, G, L, T> {
         if sight.ready().is_empty() {
             return (Next::Stops, self.shared.end(rt, positions));
         }
-        let told = self.tell(rt, positions, kernel, sight.ready());
+        let notified = self.tell(rt, positions, kernel, sight.ready());
         match sight.pick() {
-            Some(turn) => (Next::Enters(turn), told),
+            Some(turn) => (Next::Enters(turn), notified),
             None => {
                 positions.asleep.insert(core);
-                (Next::Waits, told)
+                (Next::Waits, notified)
             }
         }
     }
 
     /// Decides what the core does next when it has entered nothing before.
     fn begin<R: Wait>(&self, rt: &R, core: CoreId) -> Next {
-        let (next, told) = {
+        let (next, notified) = {
             let mut positions = self.shared.positions.lock(rt);
             let kernel = self.machine.lock(rt);
             self.look(rt, &mut positions, kernel.kernel(), core)
         };
-        self.shared.wake(told);
+        self.shared.wake(notified);
         next
     }
 
@@ -136,14 +136,14 @@ impl<G: Ledger, L: Lines, T: Gate> RunContext<'_, G, L, T> {
         requires { turn.number + 1 < 2 ^ 64 }
     {
         let core = seat.core();
-        let (entered, next, told) = {
+        let (entered, next, notified) = {
             let mut positions = self.shared.positions.lock(rt);
             let mut kernel = self.machine.lock(rt);
             let entered = positions.enter(self.alloc, &mut kernel, seat, turn, prepared);
-            let (next, told) = self.look(rt, &mut positions, kernel.kernel(), core);
-            (entered, next, told)
+            let (next, notified) = self.look(rt, &mut positions, kernel.kernel(), core);
+            (entered, next, notified)
         };
-        self.shared.wake(told);
+        self.shared.wake(notified);
         (entered, next)
     }
 

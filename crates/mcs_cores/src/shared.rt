@@ -22,7 +22,7 @@ pub(crate) enum Next {
 /// The message to a core, and the condition on which it waits for one.
 #[derive(Drop)]
 struct News {
-    told: Mutex<Next>,
+    notified: Mutex<Next>,
     changed: Condvar,
 }
 
@@ -38,18 +38,20 @@ impl News {
     /// Returns a `News` without a message.
     fn new() -> News {
         News {
-            told: Mutex::new(Next::Waits),
+            notified: Mutex::new(Next::Waits),
             changed: Condvar::new(),
         }
     }
 
     /// Waits for a message to the core, and takes it.
     fn hear<R: Wait>(&self, rt: &R) -> Next {
-        let mut told = self
-            .changed
-            .wait_while(rt, self.told.lock(rt), |told| matches!(told, Next::Waits));
-        let next = *told;
-        *told = Next::Waits;
+        let mut notified = self.changed.wait_while(
+            rt,
+            self.notified.lock(rt),
+            |notified| matches!(notified, Next::Waits),
+        );
+        let next = *notified;
+        *notified = Next::Waits;
         next
     }
 }
@@ -71,7 +73,7 @@ impl SharedPositions {
     /// would have to wait for.
     pub(crate) fn tell<R: Wait>(&self, rt: &R, core: CoreId, next: Next) {
         if let Some(news) = self.news.get(core.0 as usize) {
-            *news.told.lock(rt) = next;
+            *news.notified.lock(rt) = next;
         }
     }
 
@@ -84,12 +86,12 @@ impl SharedPositions {
     }
 
     /// Wakes cores that have a message.
-    pub(crate) fn wake(&self, told: CoreSet) {
-        if told.is_empty() {
+    pub(crate) fn wake(&self, notified: CoreSet) {
+        if notified.is_empty() {
             return;
         }
         for core in 0..CORES {
-            if told.contains(CoreId(core)) {
+            if notified.contains(CoreId(core)) {
                 if let Some(news) = self.news.get(core as usize) {
                     news.changed.notify_all();
                 }
@@ -111,7 +113,7 @@ impl SharedPositions {
 
     /// Ends the run as `end` does, for a caller without the lock, and wakes the cores.
     pub(crate) fn close<R: Wait>(&self, rt: &R) {
-        let told = self.end(rt, &mut self.positions.lock(rt));
-        self.wake(told);
+        let notified = self.end(rt, &mut self.positions.lock(rt));
+        self.wake(notified);
     }
 }

@@ -19,7 +19,7 @@ use Rattle.mcs_turns.specs.declared.position.Schedule.{Schedule}
 use Rattle.mcs_turns.specs.declared.position.Schedule.TheVariants as schedule
 use Rattle.mcs_turns.specs.declared.reached.Reached.{Reached}
 use Rattle.mcs_turns.specs.Due.{choices, due_by, picks_at}
-use Rattle.mcs_turns.specs.Turns.{User, Going, CanGive, CanBePicked, MayPrecede, ArePicksOf, ArePicks, IsStale, IsTurn, Follows, IsOver, AreInRange, all_told, outcome, behind, entered, given, put_at, saved_at}
+use Rattle.mcs_turns.specs.Turns.{User, Going, CanGive, CanBePicked, MayPrecede, ArePicksOf, ArePicks, IsStale, IsTurn, Follows, IsOver, AreInRange, all_answered, outcome, position_after, entered, given, put_at, saved_at}
 use Rattle.mcs_turns.specs.Mail.{reached_from}
 use Rattle.mcs_turns.proofs.Choices.{IsOneOf, choice-in, choice-out, stale-same}
 use Rattle.mcs_turns.proofs.RunLaws.{run-legal, run-long}
@@ -164,9 +164,9 @@ module _ (numbered : Bool) (users : List User) (boot : Boot) (whole : IsFaultles
     logs_after : AlikeBy numbered (log_of (entered users turn.picks turn.user step k g).book) (log_of then_h.book)
     logs_after = (by-likeness numbered).steps g.book h.book (line_for step (outcome g.book step)) (legal _ left) (legal h c.right) c.logs
 
-    -- where the users are after the turn, by where they were, its answer and what it brought
+    -- where the users are after the turn, by where they were, its answer and what it delivered
     abbrev places_by : List Position → Answer → List Reached → List Position
-    places_by ps x rs = all_told rs k.user 0 users (put_at k.user (behind turn.user k.number (saved_at (record g { places = ps }) k.user) x) ps)
+    places_by ps x rs = all_answered rs k.user 0 users (put_at k.user (position_after turn.user k.number (saved_at (record g { places = ps }) k.user) x) ps)
 
     pub places_after : (entered users turn.picks turn.user step k g).places ≡ then_h.places
     places_after =

@@ -71,7 +71,7 @@ form-there R o sound alive = go (form_of R o) refl
     go None e = let no : true ≡ false = sym (alive-made R o alive) ∙ formless R o e in absurd cc
     go (Some f) e = (f, (e, form-fits R o f sound e))
 
--- what a row says of the bound notification
+-- what a row holds about the bound notification
 said-bound : (R : Log) (t : ObjId) (r : ThreadRow) → Some r ≡ row_said R t → r.notification ≡ bound_of R t
 said-bound R t r h = go (is_alive R t) (form_of R t) h
   where
@@ -174,7 +174,7 @@ module _ (R S : Log) (left : Sound R) (right : Sound S) (looks : AnswerAll R S) 
           at kind.Reply e form.Plain (form.OnCore c) x y h i = absurd y
           at kind.Reply e form.Plain (form.Runner m r) x y h i = absurd y
 
-  -- who is in a queue of one is in it in the other
+  -- a thread that is in a queue in one log is in it in the other
   stands : (t : ObjId) (q : Queue) → queue_of R t ≡ Some q → queue_of S t ≡ Some q
   stands t q e = let r = row-there t (standing-thread R t q left e) in stands-said S t r.0 q (reply_with R t) r.1.1 (queue-said R t r.0 q r.1.0 e)
 

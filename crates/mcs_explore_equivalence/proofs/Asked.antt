@@ -1,5 +1,5 @@
--- Nothing is said of what was never made, and nothing of an object that is asked of another kind.
--- So logs that answer alike of what was made answer alike of everything.
+-- Nothing is known of what was never made, and nothing of an object that is asked for as another
+-- kind. So logs that answer alike of what was made answer alike of everything.
 use Rattle.std.specs.Prelude.{ℕ, zero, suc, ◌+◌, ◌^◌, ◌<◌, ◌≤◌, ◌≡◌, ◌⊎◌, ◌&&◌, ◌||◌, ◌==◌, Bool, true, false, not, cond, nat_le, List, [], ◌∷◌, Option, Some, None, option_and_then, option_map}
 use Rattle.std.specs.Option.{IfSome}
 use Rattle.std.proofs.lemmas.Bool.{eqb-true}
@@ -74,7 +74,7 @@ made-still : (a b : Bool) → b ≡ true → (a || b) ≡ true
 made-still true b h = refl
 made-still false b h = h
 
--- of which something is said as one of a kind was made, and is of that kind
+-- an object of which something is known as one of a kind was made, and is of that kind
 row-made : (R : Log) (t : ObjId) (r : ThreadRow) → Sound R → row_said R t ≡ Some r → IsMade R kind.Thread t
 row-made R t r sound h = there-made R kind.Thread t (row-there R t r sound (sym h))
 
@@ -107,7 +107,7 @@ numberless-made R x s sound h = go (open_of R x) refl h
     go None e k = absurd cc
     go (Some l) e k = open-made R x l sound e
 
--- who is first in a line is in a queue whose object is there
+-- the thread that is first in a queue is in a queue whose object exists
 line-made : (R : Log) (q : Queue) (t : ObjId) (ts : List ObjId) → Sound R → queued_in R q ≡ t ∷ ts → IsLineThere R q
 line-made R q t ts sound h = go (growing_queue R q) refl (sym (queued_in-growing R q sound) ∙ h)
   where
@@ -258,7 +258,7 @@ unheld R o sound new = go (written R)
     go [] = refl
     go (at ∷ ats) = ap (λ b. cond b (counted (λ (x : SlotName). is_cap_to o (slot R x.cnode x.index)) ats + 1) (counted (λ (x : SlotName). is_cap_to o (slot R x.cnode x.index)) ats)) (none at (slot R at.cnode at.index) refl) ∙ go ats
 
--- what two say alike where either says something, they say alike
+-- two optional values are equal if they are equal whenever either is some
 alike-some : {A P : Type 0} (f g : Option A) → ((x : A) → f ≡ Some x → P) → ((x : A) → g ≡ Some x → P) → (P → f ≡ g) → f ≡ g
 alike-some None None l r h = refl
 alike-some (Some x) g l r h = h (l x refl)
@@ -269,7 +269,7 @@ alike-list [] [] l r h = refl
 alike-list (x ∷ xs) g l r h = h (l x xs refl)
 alike-list [] (y ∷ ys) l r h = h (r y ys refl)
 
--- whether it was made can be told
+-- it is decidable whether an object was made
 is-made : (R : Log) (k : Kind) (o : ObjId) → IsMade R k o ⊎ (IsMade R k o → ⊥)
 is-made R k o = go (same_kind o.kind k) refl (was_made R o) refl
   where

@@ -96,7 +96,7 @@ pub homed-same : (R S : Log) → AlikeButNumbers R S → (n : ObjId) → homed_a
 unfolding homed_at
 homed-same R S a n = find-same (λ s. is_just (home_of R s) n) (λ s. is_just (home_of S s) n) (contexts R) (λ s. ap (λ h. is_just h n) (a.homes s)) ∙ ap (λ xs. find (λ s. is_just (home_of S s) n) xs) (a.lists kind.Context)
 
--- the context with which who hears wakes
+-- the context with which the receiver of a signal wakes
 pub spare-same : (R S : Log) → AlikeButNumbers R S → (n : ObjId) → spare_at R n ≡ spare_at S n
 unfolding spare_at
 spare-same R S a n = ap (λ o. if_spare R o) (homed-same R S a n) ∙ go (homed_at S n)

@@ -191,7 +191,7 @@ record Leads (R : Log) (act : Act) : Type 0 where
 silently-respects : (act : Act) → RespectsAct Always act → Respects (silently act)
 silently-respects act h = record { on = λ R S a s k. (h R S a tt s k).records }
 
--- the message of a sender who gives its context along, and does not wait
+-- the message of a sender that donates its context, and does not wait
 given-keeps : (R : Log) (t : ObjId) (cap : Cap) (message : Content) (Q : Log) → Kept R Q → Kept R (onto (silently (sends (letter_over t cap how.Give message) answer.Done (answers answer.Done nothing)) Q) Q)
 unfolding sends sends_to
 given-keeps R t cap message Q c = go (first_in Q (Receivers cap.obj))
@@ -221,7 +221,7 @@ give-leads R kind.CNode t cap message = tt
 give-leads R kind.Thread t cap message = tt
 give-leads R kind.Context t cap message = tt
 
--- who sends and then receives
+-- a thread that sends and then receives
 exchange-good : (R : Log) (t : ObjId) → Sound R → (address source : ℕ) (message : Content) (r : Checked (Option ObjId))
     → Good (Kept R) (send_receive R t (capability R t address >>= λ cap. send_over how.Give t cap message (answers answer.Done nothing)) source r)
 unfolding send_receive send_over

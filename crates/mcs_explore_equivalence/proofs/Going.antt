@@ -1,4 +1,4 @@
--- Likeness goes on from one log to the next.
+-- Likeness carries over from one log to the next.
 use Rattle.std.proofs.Common.{sym, ◌∙◌}
 use Rattle.mcs_book.specs.Logs.{Log}
 use Rattle.mcs_explore_equivalence.specs.Alike.{Alike}

@@ -1,4 +1,4 @@
--- What a line brings to threads is that of its records but for the numbers of messages.
+-- What a line delivers to threads is what its records do, up to the numbers of messages.
 use Rattle.std.specs.Prelude.{◌≡◌, ◌++◌, map, List, [], ◌∷◌, Option}
 use Rattle.std.proofs.Common.{refl, ap, sym, ◌∙◌}
 use Rattle.mcs_types.specs.declared.entry.Answer.{Answer}

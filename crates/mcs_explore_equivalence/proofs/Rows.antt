@@ -121,13 +121,13 @@ sends-respects C t cap mode message said alone hd R S a c =
     go (Some p) = answers-agree said (sent (letter_over t cap mode message R) then handed (letter_over t cap mode message R) p) (sent (letter_over t cap mode message S) then handed (letter_over t cap mode message S) p) R S
         (over-agree (letter_over t cap mode message R) (next_message S) p R S a refl refl)
 
--- x hears, leaves its queue, and goes on with the context that is homed there
+-- x receives the word, leaves its queue, and continues with the context that is homed there
 wake-respects : (n x : ObjId) (q : Queue) (word : ℕ) → Respects (wake n x q word)
 unfolding wake
 wake-respects n x q word = asking-respects (λ R. spare_at R n) (λ s. say (rec.Heard x n word) then say (rec.Parts x q) then say (rec.Turns x Running) then give_back s x) (λ R S a. spare-same R S a n)
     (λ s. then-respects _ _ (then-respects _ _ (then-respects _ _ (say-respects _ refl) (say-respects _ refl)) (say-respects _ refl)) (give_back-respects s x))
 
--- who hears
+-- which thread receives the word
 hearer-respects : (n : ObjId) (b : Option ObjId) (q : Option Queue) (w : Option ObjId) (word : ℕ) → Respects (hearer n b q w word)
 hearer-respects n (Some x) (Some (Receivers e)) w word = wake-respects n x (Receivers e) word
 hearer-respects n None q (Some x) word = wake-respects n x (Waiters n) word
@@ -139,7 +139,7 @@ hearer-respects n (Some y) (Some (Senders e)) None word = nothing-respects
 hearer-respects n (Some y) (Some (Waiters e)) (Some x) word = wake-respects n x (Waiters n) word
 hearer-respects n (Some y) (Some (Waiters e)) None word = nothing-respects
 
--- whom a signal reaches
+-- which thread a signal reaches
 reach-respects : (R : Log) (n : ObjId) (word : ℕ) (w : Option ℕ) → Respects (reach R n word w)
 reach-respects R n word (Some old) = nothing-respects
 reach-respects R n word None = hearer-respects n (tied_to R n) (queue_of_any R (tied_to R n)) (first_in R (Waiters n)) word

@@ -114,7 +114,7 @@ unfolding reply_receive
 reply_receive-same R S a t there cap r message =
     ap (λ m. need (can_badge cap) WrongKind >> (need (may_read cap) NoRight >> m)) (bind-same _ _ _ _ (reply_at-same R S a t there r) (λ o i. bind-same _ _ _ _ (over-same R S a t cap (Ok o) (Ok o) true refl) (λ act j. refl)))
 
--- who sends and then receives: all checks come first
+-- a thread that sends and then receives: all checks come first
 exchange-same : (R S : Log) (a : AlikeButNumbers R S) (t : ObjId) (there : IsThere R kind.Thread t) (address source : ℕ) (message : Content) (r r' : Checked (Option ObjId)) → r ≡ r'
     → send_receive R t (capability R t address >>= λ cap. send_over how.Give t cap message (answers answer.Done nothing)) source r ≡ send_receive S t (capability S t address >>= λ cap. send_over how.Give t cap message (answers answer.Done nothing)) source r'
 unfolding send_receive

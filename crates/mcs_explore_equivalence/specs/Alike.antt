@@ -1,4 +1,4 @@
--- Logs that no later question tells apart.
+-- Logs that no later question distinguishes.
 use Rattle.std.specs.Prelude.{ℕ, ◌≡◌, true, Some}
 use Rattle.mcs_types.specs.declared.id.ObjId.{ObjId}
 use Rattle.mcs_types.specs.declared.id.Kind.{Kind}

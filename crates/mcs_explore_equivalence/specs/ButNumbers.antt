@@ -1,4 +1,4 @@
--- Logs that no later question tells apart but by the numbers of messages.
+-- Logs that no later question distinguishes, up to the numbers of messages.
 use Rattle.std.specs.Prelude.{ℕ, ◌≡◌, true, List, [], ◌∷◌, Option, Some, None, map, option_map}
 use Rattle.mcs_types.specs.declared.id.ObjId.{ObjId}
 use Rattle.mcs_types.specs.declared.id.Kind.{Kind}
@@ -61,7 +61,7 @@ pub record AlikeButNumbers (R S : Log) : Type 0 where
 abbrev pub open_number : Log → ObjId → Option ℕ
 open_number R x = option_map (λ (s : Letter). s.number) (growing_open R x)
 
--- two numbers are those of the open messages that one thread has in the two logs
+-- two numbers are those of the open message of one thread in the two logs
 abbrev pub AreOf : Log → Log → ℕ → ℕ → Type 0
 AreOf R S m n = (x : ObjId) × ((open_number R x ≡ Some m) × (open_number S x ≡ Some n))
 

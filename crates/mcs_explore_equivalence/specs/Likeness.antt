@@ -6,8 +6,8 @@ use Rattle.mcs_explore_equivalence.specs.Alike.{Alike}
 use Rattle.mcs_explore_equivalence.specs.ButNumbers.{AlikeButNumbers}
 use Rattle.mcs_explore_equivalence.specs.Books.{with_one, line_in}
 
--- logs that are alike by it are so but for numbers; it goes on; and a step that may follow one of
--- two legal books leaves logs that are alike by it again
+-- logs that are alike by it are alike up to message numbers; it is transitive; and a step that may
+-- follow one of two legal books leaves logs that are alike by it again
 pub record IsLogLikeness (Like : Log → Log → Type 0) : Type 0 where
   pub numbers : (R S : Log) → Like R S → AlikeButNumbers R S
   pub trans : (R S W : Log) → Like R S → Like S W → Like R W

@@ -1,4 +1,4 @@
--- Runs that no later turn tells apart (own).
+-- Runs that no later turn distinguishes (own).
 use Rattle.std.specs.Prelude.{ℕ, ◌≡◌, Bool, List, ◌∷◌}
 use Rattle.mcs_types.specs.declared.id.CoreId.{CoreId}
 use Rattle.mcs_book.specs.Boots.{Boot}

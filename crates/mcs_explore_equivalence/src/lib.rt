@@ -1,4 +1,4 @@
-//! Observational equivalence: logs that no later entry can tell apart, and runs that no later turn
+//! Observational equivalence: logs that no later entry can distinguish, and runs that no later turn
 //! can (own).
 #![tactic(auto)]
 

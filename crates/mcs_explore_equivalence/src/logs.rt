@@ -1,4 +1,4 @@
-//! Logs that no later entry can tell apart: each question of an entry has the same answer in both
+//! Logs that no later entry can distinguish: each question of an entry has the same answer in both
 //! (own). Each law is about definitions, and its function does nothing.
 ghost use Rattle.std.specs.Prelude.{◌≡◌, ◌∷◌, Bool, List, Option};
 ghost use Rattle.mcs_types.specs.declared.entry.Entry.{Entry};

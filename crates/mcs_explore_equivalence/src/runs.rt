@@ -1,4 +1,4 @@
-//! Runs that no later turn can tell apart: they have the same possible turns, which lead to such
+//! Runs that no later turn can distinguish: they have the same possible turns, which lead to such
 //! runs again (own). Each law is about definitions, and its function does nothing.
 ghost use Rattle.std.specs.Prelude.{Bool, List, true, false};
 ghost use Rattle.mcs_book.specs.Boots.{Boot, IsFaultless};

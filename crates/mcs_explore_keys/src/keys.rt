@@ -4,9 +4,9 @@ ghost use Rattle.mcs_explore_rows.specs.Naming.{Keeps};
 ghost use Rattle.mcs_turns.specs.Turns.{ArePicks};
 ghost use Rattle.mcs_explore_rows.specs.Rows.{IsKey, NameRows};
 
-use crate::names::{Counts, Names};
+use crate::names::{CanonicalNames, Counts};
 use crate::rows::{put_object, put_queue, put_slots, put_stale, put_thread};
-use mcs_explore_rows::{Key, Met, Numbers, Row, exact_numbers, key_of};
+use mcs_explore_rows::{Key, Numbers, Row, RowInterner, exact_numbers, key_of};
 use mcs_explore_walk::{OrdersFault, Picks, Users, Walk, picked};
 use mcs_kernel::{Boot, Kernel};
 use mcs_queues::Lines;
@@ -19,7 +19,7 @@ use std::marker::Model;
 #[derive(Drop)]
 pub struct Keys {
     alloc: Global,
-    met: Met,
+    met: RowInterner,
     counts: Counts,
     is_exact: bool,
     numbered: bool,
@@ -50,13 +50,13 @@ const KINDS: [Kind; 3] = [Kind::Notification, Kind::Reply, Kind::Context];
 
 /// Adds the canonical rows of all threads; one buffer serves all of them.
 fn put_threads<L: Lines>(
-    met: &mut Met,
+    met: &mut RowInterner,
     row: &mut Row,
     numbers: &mut Numbers,
     threads: u32,
     users: &Users,
     walk: &Walk<L>,
-    names: &Names,
+    names: &CanonicalNames,
 ) -> Result<(), OrdersFault>
     ensures { Keeps met.old met.new }
 {
@@ -82,7 +82,7 @@ impl Keys {
     {
         Keys {
             alloc,
-            met: Met::new(alloc),
+            met: RowInterner::new(alloc),
             counts: Counts::new(boot),
             is_exact,
             numbered,
@@ -102,7 +102,7 @@ impl Keys {
         &self,
         row: &mut Row,
         kernel: &Kernel<L>,
-        names: &Names,
+        names: &CanonicalNames,
         kind: Kind,
     ) -> Result<(), OrdersFault> {
         for place in 0..self.counts.of(kind) {
@@ -121,7 +121,7 @@ impl Keys {
         &self,
         row: &mut Row,
         kernel: &Kernel<L>,
-        names: &Names,
+        names: &CanonicalNames,
     ) -> Result<(), OrdersFault> {
         row.clear();
         for place in 0..self.counts.of(Kind::Thread) {
@@ -138,7 +138,7 @@ impl Keys {
         &self,
         row: &mut Row,
         kernel: &Kernel<L>,
-        names: &Names,
+        names: &CanonicalNames,
     ) -> Result<(), OrdersFault> {
         row.clear();
         for place in 0..self.counts.of(Kind::CNode) {
@@ -153,7 +153,7 @@ impl Keys {
         row: &mut Row,
         numbers: &mut Numbers,
         kernel: &Kernel<L>,
-        names: &Names,
+        names: &CanonicalNames,
     ) -> Result<(), OrdersFault>
         ensures kept { Keeps self.old.met self.new.met }
         ensures mode { self.new.is_exact ≡ self.old.is_exact }
@@ -194,7 +194,7 @@ impl Keys {
         ensures apart { self.new.numbered ≡ self.old.numbered }
     {
         let kernel = walk.kernel();
-        let names = Names::new(self.alloc, kernel, self.counts, self.changes_slots)?;
+        let names = CanonicalNames::new(self.alloc, kernel, self.counts, self.changes_slots)?;
         let threads = self.counts.of(Kind::Thread);
         let mut row = Vec::with_capacity(self.alloc, ROOM)?;
         let mut numbers = Vec::with_capacity(self.alloc, (threads as usize).saturating_add(3))?;
@@ -224,7 +224,8 @@ impl Keys {
     ) -> Result<Numbers, OrdersFault>
         requires { ArePicks users.now walk.now picks.now }
         ensures exact { self.old.is_exact ≡ true
-            → IfOk result (λ n. NameRows self.old.numbered self.new.met users.now walk.now n.items) }
+            → IfOk result (λ n.
+            NameRows self.old.numbered self.new.met users.now walk.now n.items) }
         ensures kept { Keeps self.old.met self.new.met }
         ensures mode { self.new.is_exact ≡ self.old.is_exact }
         ensures apart { self.new.numbered ≡ self.old.numbered }

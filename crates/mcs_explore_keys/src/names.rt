@@ -44,7 +44,7 @@ impl Counts {
 /// The existing objects that were made after the boot, in the order of the lowest slots that name
 /// them. Each is in a slot as long as it exists.
 #[derive(Drop)]
-pub struct Names {
+pub struct CanonicalNames {
     counts: Counts,
     later: Vec<ObjId>,
 }
@@ -52,15 +52,15 @@ pub struct Names {
 /// The least name of an object that is neither of the boot nor in a slot: 2^32.
 const APART: u64 = 1 << 32;
 
-impl Names {
+impl CanonicalNames {
     /// Names the objects of a kernel; only those of the boot if no entry of a user changes slots.
     pub fn new<L: Lines>(
         alloc: Global,
         kernel: &Kernel<L>,
         counts: Counts,
         has_later: bool,
-    ) -> Result<Names, AllocError> {
-        let mut names = Names {
+    ) -> Result<CanonicalNames, AllocError> {
+        let mut names = CanonicalNames {
             counts,
             later: Vec::new(alloc),
         };

@@ -1,6 +1,6 @@
 //! Canonical rows, which decide the future of a state: message numbers are left out, and objects
 //! made after the boot have canonical names. That they decide it is tested.
-use crate::names::Names;
+use crate::names::CanonicalNames;
 use mcs_explore_rows::{Row, kind_number, send_number};
 use mcs_explore_walk::{Walk, has};
 use mcs_kernel::Kernel;
@@ -45,7 +45,7 @@ fn queue_parts(queue: Queue) -> (u64, ObjId) {
 }
 
 /// Returns a thread's status as a number, and the object on which it is blocked.
-fn status_parts(names: &Names, status: Option<Status>) -> (u64, u64) {
+fn status_parts(names: &CanonicalNames, status: Option<Status>) -> (u64, u64) {
     match status {
         None => (0, 0),
         Some(Status::Running) => (1, 0),
@@ -61,7 +61,11 @@ fn status_parts(names: &Names, status: Option<Status>) -> (u64, u64) {
 }
 
 /// Appends a message that no thread has received, without its number.
-fn put_letter(row: &mut Row, names: &Names, letter: Option<&Letter>) -> Result<(), AllocError> {
+fn put_letter(
+    row: &mut Row,
+    names: &CanonicalNames,
+    letter: Option<&Letter>,
+) -> Result<(), AllocError> {
     let Some(letter) = letter else {
         return Ok(());
     };
@@ -86,7 +90,7 @@ fn priority_number(priority: Option<Prio>) -> u64 {
 pub fn put_thread<L: Lines>(
     row: &mut Row,
     kernel: &Kernel<L>,
-    names: &Names,
+    names: &CanonicalNames,
     thread: ObjId,
     place: Option<Position>,
 ) -> Result<(), AllocError> {
@@ -102,12 +106,12 @@ pub fn put_thread<L: Lines>(
     put_letter(row, names, kernel.open(thread))
 }
 
-/// Appends the queue of which a thread is the head, if others are queued behind it, so that each
+/// Appends the queue of which a thread is the head, if others are queued after it, so that each
 /// such queue is written once. That a thread is alone in a queue follows from its status.
 pub fn put_queue<L: Lines>(
     row: &mut Row,
     kernel: &Kernel<L>,
-    names: &Names,
+    names: &CanonicalNames,
     thread: ObjId,
 ) -> Result<(), AllocError> {
     let Some(Status::Queued(queue)) = kernel.status(thread) else {
@@ -136,7 +140,7 @@ pub fn put_queue<L: Lines>(
 fn put_word<L: Lines>(
     row: &mut Row,
     kernel: &Kernel<L>,
-    names: &Names,
+    names: &CanonicalNames,
     notification: ObjId,
 ) -> Result<(), AllocError> {
     if let Some(word) = kernel.word(notification) {
@@ -152,7 +156,7 @@ fn put_word<L: Lines>(
 fn put_reply<L: Lines>(
     row: &mut Row,
     kernel: &Kernel<L>,
-    names: &Names,
+    names: &CanonicalNames,
     reply: ObjId,
 ) -> Result<(), AllocError> {
     if let Some(receiver) = kernel.receiver(reply) {
@@ -167,7 +171,7 @@ fn put_reply<L: Lines>(
 fn put_standing<L: Lines>(
     row: &mut Row,
     kernel: &Kernel<L>,
-    names: &Names,
+    names: &CanonicalNames,
     context: ObjId,
 ) -> Result<(), AllocError> {
     let home = kernel.home(context);
@@ -192,7 +196,7 @@ fn put_standing<L: Lines>(
 fn put_context<L: Lines>(
     row: &mut Row,
     kernel: &Kernel<L>,
-    names: &Names,
+    names: &CanonicalNames,
     context: ObjId,
 ) -> Result<(), AllocError> {
     match kernel.core(context) {
@@ -214,7 +218,7 @@ fn put_context<L: Lines>(
 pub fn put_object<L: Lines>(
     row: &mut Row,
     kernel: &Kernel<L>,
-    names: &Names,
+    names: &CanonicalNames,
     object: ObjId,
 ) -> Result<(), AllocError> {
     match object.kind {
@@ -226,7 +230,7 @@ pub fn put_object<L: Lines>(
 }
 
 /// Appends a slot and its capability.
-fn put_cap(row: &mut Row, names: &Names, index: u8, cap: &Cap) -> Result<(), AllocError> {
+fn put_cap(row: &mut Row, names: &CanonicalNames, index: u8, cap: &Cap) -> Result<(), AllocError> {
     row.push(index as u64)?;
     row.push(kind_number(cap.obj.kind))?;
     row.push(names.name(cap.obj))?;
@@ -241,7 +245,7 @@ fn put_cap(row: &mut Row, names: &Names, index: u8, cap: &Cap) -> Result<(), All
 pub fn put_slots<L: Lines>(
     row: &mut Row,
     kernel: &Kernel<L>,
-    names: &Names,
+    names: &CanonicalNames,
     cnode: ObjId,
 ) -> Result<(), AllocError> {
     for index in 0..=u8::MAX {

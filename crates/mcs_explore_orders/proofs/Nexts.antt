@@ -30,7 +30,7 @@ single t l h = go h.0 h.1 h.2
     go zero lt e = sym e
     go (suc i) lt e = absurd (omega (arith, lt))
 
--- a search that has met more rows
+-- a search that has interned more rows
 module _ (e f : Exploring) (later : IsLater e f) (g : Going) where
   leads-there : (l : Turn) (h : Going) → Leads e.users l g h → Leads f.users l g h
   leads-there l h x = subst (λ us. Leads us l g h) (sym later.users) x
@@ -41,8 +41,8 @@ module _ (e f : Exploring) (later : IsLater e f) (g : Going) where
   next-there : (l : Turn) (k : List ℕ) → IsNext (Leads e.users) (IsKeyIn e) g l k → IsNext (Leads f.users) (IsKeyIn f) g l k
   next-there l k n = record { state = n.state; step = leads-there l n.state n.step; key = keeps-keys e f later n.state k n.key }
 
-  among-there : (nexts more : List (Turn × List ℕ)) (h : Going) → IsAmong (IsKeyIn e) nexts h → IsAmong (IsKeyIn f) (nexts ++ more) h
-  among-there nexts more h a = record { place = a.place; label = a.label; key = a.key; at = at-old nexts more a.place _ a.at; is = keeps-keys e f later h a.key a.is }
+  among-there : (nexts more : List (Turn × List ℕ)) (l : Turn) (h : Going) → IsAmong (IsKeyIn e) nexts l h → IsAmong (IsKeyIn f) (nexts ++ more) l h
+  among-there nexts more l h a = record { place = a.place; key = a.key; at = at-old nexts more a.place _ a.at; is = keeps-keys e f later h a.key a.is }
 
   -- a turn that the rule does not have adds nothing
   pub none-more : (ts : List Turn) (t : Turn) (nexts : List (Turn × List ℕ)) → ((h : Going) → Leads e.users t g h → ⊥) → AreNextsOf e g ts nexts → AreNextsOf f g (ts ++ t ∷ []) nexts
@@ -51,11 +51,11 @@ module _ (e f : Exploring) (later : IsLater e f) (g : Going) where
     all = λ l h among x. go l h x (Contains-append_cases ts (t ∷ []) l among);
   }
     where
-      same-end : (h : Going) → IsAmong (IsKeyIn f) (nexts ++ []) h → IsAmong (IsKeyIn f) nexts h
-      same-end h a = subst (λ ns. IsAmong (IsKeyIn f) ns h) (append-nil nexts) a
+      same-end : (l : Turn) (h : Going) → IsAmong (IsKeyIn f) (nexts ++ []) l h → IsAmong (IsKeyIn f) nexts l h
+      same-end l h a = subst (λ ns. IsAmong (IsKeyIn f) ns l h) (append-nil nexts) a
 
-      go : (l : Turn) (h : Going) → Leads f.users l g h → Contains ts l ⊎ Contains (t ∷ []) l → IsAmong (IsKeyIn f) nexts h
-      go l h x (inl c) = same-end h (among-there nexts [] h (are.all l h c (leads-here l h x)))
+      go : (l : Turn) (h : Going) → Leads f.users l g h → Contains ts l ⊎ Contains (t ∷ []) l → IsAmong (IsKeyIn f) nexts l h
+      go l h x (inl c) = same-end l h (among-there nexts [] l h (are.all l h c (leads-here l h x)))
       go l h x (inr c) = absurd (none h (subst (λ u. Leads e.users u g h) (single t l c) (leads-here l h x)))
 
   -- one that it has adds its key
@@ -76,12 +76,13 @@ module _ (e f : Exploring) (later : IsLater e f) (g : Going) where
       each {i} l c (inl at) = next-there l c (are.each i l c at)
       each l c (inr is) = moved l c is.1
 
-      go : (l : Turn) (h : Going) → Leads f.users l g h → Contains ts l ⊎ Contains (t ∷ []) l → IsAmong (IsKeyIn f) (nexts ++ (t, k) ∷ []) h
-      go l h x (inl c) = among-there nexts ((t, k) ∷ []) h (are.all l h c (leads-here l h x))
+      go : (l : Turn) (h : Going) → Leads f.users l g h → Contains ts l ⊎ Contains (t ∷ []) l → IsAmong (IsKeyIn f) (nexts ++ (t, k) ∷ []) l h
+      go l h x (inl c) = among-there nexts ((t, k) ∷ []) l h (are.all l h c (leads-here l h x))
       go l h x (inr c) =
           let same : l ≡ t = single t l c in
           let one : some.0 ≡ h = one-turn e.users t.core t.pick g some.0 h some.1.0 (subst (λ u. Leads e.users u g h) same (leads-here l h x)) in
-          record { place = length nexts; label = t; key = k; at = at-last nexts (t, k); is = subst (λ u. IsKeyIn f u k) one some.1.1 }
+          subst (λ (u : Turn). IsAmong (IsKeyIn f) (nexts ++ (t, k) ∷ []) u h) (sym same)
+          (record { place = length nexts; key = k; at = at-last nexts (t, k); is = subst (λ u. IsKeyIn f u k) one some.1.1 })
 
 -- the numbers of a key in a place
 number-at : (nexts : List (Turn × Vec ℕ Global)) (i : ℕ) (l : Turn) (k : Vec ℕ Global) → slice_get nexts i ≡ Some (l, k) → slice_get (numbers_of nexts) i ≡ Some (l, k.items)
@@ -104,8 +105,8 @@ are-nexts e ts nexts g has are = record {
   each = λ i l k at. let n = are.each i l k.items (number-at nexts i l k at) in record { state = n.state; step = n.step; key = n.key };
   all = λ l h x.
       let a = are.all l h (has l h x) x in
-      let k = at-number nexts a.place a.label a.key a.at in
-      record { place = a.place; label = a.label; key = k.0; at = k.1.0; is = subst (λ ns. IsKeyIn e h ns) (sym k.1.1) a.is };
+      let k = at-number nexts a.place l a.key a.at in
+      record { place = a.place; key = k.0; at = k.1.0; is = subst (λ ns. IsKeyIn e h ns) (sym k.1.1) a.is };
 }
 
 -- a key of another state that is the same
@@ -143,10 +144,10 @@ no-turns [] e = refl
 no-turns (x ∷ xs) e = absurd (omega (arith, e))
 
 -- what was noted of all turns from the end of a path
-pub all-nexts : (users : List User) → (start : Going) (path : List Turn) (told now : Exploring) (g : Going) (ts : List Turn) (nexts : List (Turn × Vec ℕ Global))
-    → Path (Leads users) start path g → told.users ≡ users → IsLater told now → HasEachTurn told.users g ts → AreNextsOf now g ts (numbers_of nexts)
+pub all-nexts : (users : List User) → (start : Going) (path : List Turn) (reported now : Exploring) (g : Going) (ts : List Turn) (nexts : List (Turn × Vec ℕ Global))
+    → Path (Leads users) start path g → reported.users ≡ users → IsLater reported now → HasEachTurn reported.users g ts → AreNextsOf now g ts (numbers_of nexts)
     → (s : Going) → Path (Leads users) start path s → AreNexts (Leads now.users) (λ h (k : Vec ℕ Global). IsKeyIn now h k.items) s nexts
-all-nexts users start path told now g ts nexts end same_users later has are s leads =
+all-nexts users start path reported now g ts nexts end same_users later has are s leads =
     subst (λ x. AreNexts (Leads now.users) (λ h (k : Vec ℕ Global). IsKeyIn now h k.items) x nexts) (path-one users start path g s end leads)
     (are-nexts now ts nexts g (λ l h x. has l.core l.pick h (subst (λ us. Leads us l g h) later.users x)) are)
 

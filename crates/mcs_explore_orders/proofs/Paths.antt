@@ -1,4 +1,4 @@
--- Trails along paths.
+-- Cached paths.
 use Rattle.std.specs.Prelude.{ℕ, zero, suc, ◌≡◌, ◌<◌, ◌+◌, ◌-◌, ◌++◌, List, [], ◌∷◌, Some, length, slice_get, slice_index_or, take, drop}
 use Rattle.std.proofs.Common.{refl, sym, ap, ◌∙◌, subst, arith, append_assoc, append-nil}
 use Rattle.std.proofs.lemmas.List.{take-append-drop}
@@ -8,7 +8,7 @@ use Rattle.mcs_explore_search.specs.Paths.{Path}
 use Rattle.mcs_explore_walk.specs.declared.walk.Turn.{Turn}
 use Rattle.mcs_explore_orders.specs.Trails.{Leads, Point, IsTrail, last_point, turns_of}
 
--- the first points of a trail are one
+-- the first points of a cached path are a cached path
 pub trail-take : (users : List User) (g : Going) (ps : List Point) (n : ℕ) → IsTrail users g ps → IsTrail users g (take n ps)
 trail-take users g ps zero h = tt
 trail-take users g [] (suc n) h = tt
@@ -51,7 +51,7 @@ last-at g (q ∷ r ∷ ps) p e = last-at q.going (r ∷ ps) p (sym (ap (λ n. sl
     down : (n : ℕ) → 0 < n → suc n - 1 ≡ suc (n - 1)
     down n lt = omega (arith, lt)
 
--- a trail without its last point, and where it led
+-- a cached path without its last point, and where it led
 pub last-pushed : (g : Going) (ps : List Point) (p : Point) → last_point g (ps ++ p ∷ []) ≡ p.going
 last-pushed g [] p = refl
 last-pushed g (q ∷ ps) p = last-pushed q.going ps p
@@ -77,7 +77,7 @@ pub turns-push : (ps : List Point) (p : Point) → turns_of (ps ++ p ∷ []) ≡
 turns-push [] p = append-nil p.turns
 turns-push (q ∷ ps) p = ap (λ ts. q.turns ++ ts) (turns-push ps p) ∙ sym (append_assoc q.turns (turns_of ps) p.turns)
 
--- points that lie along a path so far, and the next, whose turns it goes on with
+-- points that lie along a path so far, and the next point, with whose turns the path continues
 pub common-on : (ps : List Point) (path : List Turn) (n at : ℕ) (p : Point) → slice_get ps n ≡ Some p → take (at + length p.turns) path ≡ take at path ++ p.turns
     → turns_of (take n ps) ≡ take at path → turns_of (take (n + 1) ps) ≡ take (at + length p.turns) path
 common-on ps path n at p here on so_far =
@@ -90,7 +90,7 @@ goes-further path ts at n t u there here same so_far =
     ap (λ m. take m path) (omega arith) ∙ take-on path (at + n) t there ∙ ap (λ xs. xs ++ t ∷ []) so_far ∙ append_assoc (take at path) (take n ts) (t ∷ [])
     ∙ ap (λ xs. take at path ++ xs) (ap (λ v. take n ts ++ v ∷ []) same ∙ sym (take-on ts n u here))
 
--- the next turns of a path lead on from the end of a trail along it
+-- the next turns of a path continue from the end of a cached part of it
 pub leads-on : (users : List User) → (g : Going) (ps : List Point) (path : List Turn) (n m : ℕ) → IsTrail users g ps → turns_of ps ≡ take n path
     → ((s : Going) × Path (Leads users) g path s) → (h : Going) × Path (Leads users) (last_point g ps) (take m (drop n path)) h
 leads-on users g ps path n m trail along some =
@@ -101,7 +101,7 @@ leads-on users g ps path n m trail along some =
     let next = path-parts users first.0 (take m (drop n path)) (drop m (drop n path)) some.0 rest in
     (next.0, subst (λ u. Path (Leads users) u (take m (drop n path)) next.0) here next.1.0)
 
--- where the rest of a path leads from the end of a trail along its beginning, the whole leads
+-- where the rest of a path leads from the end of its cached beginning, the whole path leads
 pub arrives : (users : List User) → (g : Going) (ps : List Point) (path : List Turn) (n : ℕ) (w : Going) → IsTrail users g ps → turns_of ps ≡ take n path
     → ((s : Going) × Path (Leads users) g path s) → ((h : Going) → Path (Leads users) (last_point g ps) (drop n path) h → w ≡ h) → Path (Leads users) g path w
 arrives users g ps path n w trail along some ends =

@@ -17,11 +17,11 @@ use Rattle.mcs_explore_walk.specs.Walks.{HasEachTurn, last_answer}
 use Rattle.mcs_explore_orders.specs.Trails.{Leads}
 use Rattle.mcs_explore_orders.specs.Exploring.{Exploring, IsLater}
 use Rattle.mcs_explore_orders.specs.Watching.{Watching, counting}
-use Rattle.mcs_explore_orders.specs.Shown.{AreShown, AreToldOf, Counting, HasCounted, HasSeenAll, IsShown, IsStateAt, IsToldState, IsToldTurn, IsTurnFrom, IsTurnOf, Made, SeesState, SeesTurn, Shown, Sight, Tells, TellsOn, ends_in, nothing, with_turns}
+use Rattle.mcs_explore_orders.specs.Shown.{AreShown, AreShownOf, Counting, HasCounted, HasSeenAll, IsShown, IsStateAt, IsShownState, IsShownTurn, IsTurnFrom, IsTurnOf, Made, SeesState, SeesTurn, Shown, Sight, Tells, TellsOn, ends_in, nothing, with_turns}
 use Rattle.mcs_explore_orders.proofs.Nexts.{single}
 use Rattle.mcs_explore_orders.proofs.Paths.{path-one, take-on}
 
--- what is said of a state: it is over, or a turn is possible
+-- what is reported of a state: it is over, or a turn is possible
 pub over-is : (users : List User) (g : Going) (over : Bool) → (over ≡ true → IsOver users g) → (over ≡ false → (h : Going) × Follows users g h) → (over ≡ true) ↔ IsOver users g
 over-is users g true ends goes = (ends, λ over. refl)
 over-is users g false ends goes = (ends, λ over. let f = goes refl in absurd (over f.0 f.1))
@@ -32,9 +32,9 @@ at-both [] ys j m at = inr (j, at)
 at-both (x ∷ xs) ys zero m at = inl at
 at-both (x ∷ xs) ys (suc j) m at = at-both xs ys j m at
 
-at-behind : {A : Type 0} (xs ys : List A) (k : ℕ) (m : A) → slice_get ys k ≡ Some m → (j : ℕ) × (slice_get (xs ++ ys) j ≡ Some m)
-at-behind [] ys k m at = (k, at)
-at-behind (x ∷ xs) ys k m at = let r = at-behind xs ys k m at in (suc r.0, r.1)
+at-after : {A : Type 0} (xs ys : List A) (k : ℕ) (m : A) → slice_get ys k ≡ Some m → (j : ℕ) × (slice_get (xs ++ ys) j ≡ Some m)
+at-after [] ys k m at = (k, at)
+at-after (x ∷ xs) ys k m at = let r = at-after xs ys k m at in (suc r.0, r.1)
 
 below-at : {A : Type 0} (xs : List A) (i : ℕ) (x : A) → slice_get xs i ≡ Some x → i < length xs
 below-at [] i x at = absurd cc
@@ -61,8 +61,8 @@ sorted-both (x ∷ xs) ys p sorted low same (suc j) (suc k) m n le a b =
 shown-more : (old more : List Made) (place : ℕ) (t : Turn) (h : Going) → IsShown old place t h → IsShown (old ++ more) place t h
 shown-more old more place t h s = record { number = s.number; made = s.made; at = at-old old more s.number s.made s.at; place = s.place; turn = s.turn; going = s.going }
 
-shown-behind : (old more : List Made) (place : ℕ) (t : Turn) (h : Going) → IsShown more place t h → IsShown (old ++ more) place t h
-shown-behind old more place t h s = let r = at-behind old more s.number s.made s.at in record { number = r.0; made = s.made; at = r.1; place = s.place; turn = s.turn; going = s.going }
+shown-after : (old more : List Made) (place : ℕ) (t : Turn) (h : Going) → IsShown more place t h → IsShown (old ++ more) place t h
+shown-after old more place t h s = let r = at-after old more s.number s.made s.at in record { number = r.0; made = s.made; at = r.1; place = s.place; turn = s.turn; going = s.going }
 
 -- before the first turn
 pub nothing-shown : (users : List User) (start : Going) → AreShown users start [] nothing
@@ -74,8 +74,8 @@ nothing-shown users start = record {
   sorted = λ j k m n le at. absurd cc;
 }
 
-pub nothing-told : {W : Type 0} (Has : W → List User → Shown → Type 0) (a : W) (users : List User) (place : ℕ) (g : Going) → Tells Has a a users place g []
-nothing-told Has a users place g = λ shown has. (
+pub nothing-reported : {W : Type 0} (Has : W → List User → Shown → Type 0) (a : W) (users : List User) (place : ℕ) (g : Going) → Tells Has a a users place g []
+nothing-reported Has a users place g = λ shown has. (
   [],
   (
     subst (λ (ms : List Made). Has a users (record shown { turns = ms })) (sym (append-nil shown.turns)) has,
@@ -91,8 +91,8 @@ nothing-told Has a users place g = λ shown has. (
     no-among t c = let lt = c.1 in omega (arith, lt)
 
 -- a turn that the rule does not have is not reported
-pub none-told : {W : Type 0} (Has : W → List User → Shown → Type 0) (a b : W) (users : List User) (place : ℕ) (g : Going) (t : Turn) → b ≡ a → ((h : Going) → Leads users t g h → ⊥) → TellsOn Has a b users place g t
-none-told Has a b users place g t same none = λ shown ts made has are. (
+pub none-reported : {W : Type 0} (Has : W → List User → Shown → Type 0) (a b : W) (users : List User) (place : ℕ) (g : Going) (t : Turn) → b ≡ a → ((h : Going) → Leads users t g h → ⊥) → TellsOn Has a b users place g t
+none-reported Has a b users place g t same none = λ shown ts made has are. (
   made,
   (
     subst (λ w. Has w users (with_turns made shown)) (sym same) has,
@@ -104,16 +104,16 @@ none-told Has a b users place g t same none = λ shown ts made has are. (
   ),
 )
   where
-    go : (ts : List Turn) (made : List Made) → AreToldOf users place g ts made → (l : Turn) (h : Going) → Leads users l g h → Contains ts l ⊎ Contains (t ∷ []) l → IsShown made place l h
+    go : (ts : List Turn) (made : List Made) → AreShownOf users place g ts made → (l : Turn) (h : Going) → Leads users l g h → Contains ts l ⊎ Contains (t ∷ []) l → IsShown made place l h
     go ts made are l h leads (inl c) = are.all l h c leads
     go ts made are l h leads (inr c) = absurd (none h (subst (λ u. Leads users u g h) (single t l c) leads))
 
 -- one that it has is reported
-pub one-told : {W : Type 0} (Has : W → List User → Shown → Type 0) (a b : W) (users : List User) → (place : ℕ) (g : Going) (t : Turn) → IsToldTurn Has a b users place t g → TellsOn Has a b users place g t
-one-told Has a b users place g t told = λ shown ts made has are. (
+pub one-reported : {W : Type 0} (Has : W → List User → Shown → Type 0) (a b : W) (users : List User) → (place : ℕ) (g : Going) (t : Turn) → IsShownTurn Has a b users place t g → TellsOn Has a b users place g t
+one-reported Has a b users place g t reported = λ shown ts made has are. (
   made ++ m ∷ [],
   (
-    subst (λ (ms : List Made). Has b users (record shown { turns = ms })) (append_assoc shown.turns made (m ∷ [])) (told.sees (with_turns made shown) has),
+    subst (λ (ms : List Made). Has b users (record shown { turns = ms })) (append_assoc shown.turns made (m ∷ [])) (reported.sees (with_turns made shown) has),
     record {
       place = λ j x at. places made are j x (at-split made m j x at);
       turns = λ j x at. turns ts made are j x (at-split made m j x at);
@@ -123,17 +123,17 @@ one-told Has a b users place g t told = λ shown ts made has are. (
 )
   where
     m : Made
-    m = record { place = place; turn = t; answer = told.answer; from = g.places; going = told.going }
+    m = record { place = place; turn = t; answer = reported.answer; from = g.places; going = reported.going }
 
-    places : {ts : List Turn} (made : List Made) → AreToldOf users place g ts made → (j : ℕ) (x : Made) → (slice_get made j ≡ Some x) ⊎ ((j ≡ length made) × (x ≡ m)) → x.place ≡ place
+    places : {ts : List Turn} (made : List Made) → AreShownOf users place g ts made → (j : ℕ) (x : Made) → (slice_get made j ≡ Some x) ⊎ ((j ≡ length made) × (x ≡ m)) → x.place ≡ place
     places made are j x (inl h) = are.place j x h
     places made are j x (inr e) = ap (λ (y : Made). y.place) e.1
 
-    turns : (ts : List Turn) (made : List Made) → AreToldOf users place g ts made → (j : ℕ) (x : Made) → (slice_get made j ≡ Some x) ⊎ ((j ≡ length made) × (x ≡ m)) → IsTurnFrom users g x
+    turns : (ts : List Turn) (made : List Made) → AreShownOf users place g ts made → (j : ℕ) (x : Made) → (slice_get made j ≡ Some x) ⊎ ((j ≡ length made) × (x ≡ m)) → IsTurnFrom users g x
     turns ts made are j x (inl h) = are.turns j x h
-    turns ts made are j x (inr e) = subst (λ (y : Made). IsTurnFrom users g y) (sym e.1) told.is
+    turns ts made are j x (inr e) = subst (λ (y : Made). IsTurnFrom users g y) (sym e.1) reported.is
 
-    all : (ts : List Turn) (made : List Made) → AreToldOf users place g ts made → (l : Turn) (h : Going) → Leads users l g h → Contains ts l ⊎ Contains (t ∷ []) l → IsShown (made ++ m ∷ []) place l h
+    all : (ts : List Turn) (made : List Made) → AreShownOf users place g ts made → (l : Turn) (h : Going) → Leads users l g h → Contains ts l ⊎ Contains (t ∷ []) l → IsShown (made ++ m ∷ []) place l h
     all ts made are l h leads (inl c) = shown-more made (m ∷ []) place l h (are.all l h c leads)
     all ts made are l h leads (inr c) =
         let same : l ≡ t = single t l c in
@@ -143,7 +143,7 @@ one-told Has a b users place g t told = λ shown ts made has are. (
           at = at-last made m;
           place = refl;
           turn = sym same;
-          going = one-turn users t.core t.pick g told.going h told.is.leads (subst (λ u. Leads users u g h) same leads);
+          going = one-turn users t.core t.pick g reported.going h reported.is.leads (subst (λ u. Leads users u g h) same leads);
         }
 
 -- one turn more of those from a state
@@ -151,9 +151,9 @@ pub tells-more : {W : Type 0} (Has : W → List User → Shown → Type 0) (a b 
     → TellsOn Has b c others place g t → Tells Has a b users place g (take i ts) → Tells Has a c users place g (take (i + 1) ts)
 tells-more {W = W} Has a b c users others place g ts i t same at on tells = λ shown has.
     let r = tells shown has in
-    let told : TellsOn Has b c users place g t = subst (λ us. TellsOn Has b c us place g t) same on in
-    let more = told shown (take i ts) r.0 r.1.0 r.1.1 in
-    (more.0, (more.1.0, subst (λ us. AreToldOf users place g us more.0) (sym (take-on ts i t at)) more.1.1))
+    let reported : TellsOn Has b c users place g t = subst (λ us. TellsOn Has b c us place g t) same on in
+    let more = reported shown (take i ts) r.0 r.1.0 r.1.1 in
+    (more.0, (more.1.0, subst (λ us. AreShownOf users place g us more.0) (sym (take-on ts i t at)) more.1.1))
 
 module _ (users : List User) (start : Going) (paths : List (List Turn)) (path : List Turn) where
   state-more : (i : ℕ) (s : Sight) → IsStateAt users start paths i s → IsStateAt users start (paths ++ path ∷ []) i s
@@ -164,22 +164,22 @@ module _ (users : List User) (start : Going) (paths : List (List Turn)) (path : 
 
   -- a state more, and the turns from it
   pub shown-on : {W : Type 0} (Has : W → List User → Shown → Type 0) (a b c : W) (place : ℕ) (g : Going) (ts : List Turn) → Path (Leads users) start path g → length paths ≡ place → HasEachTurn users g ts
-      → IsToldState Has a b users place g → Tells Has b c users place g ts → HasSeenAll Has a users start paths → HasSeenAll Has c users start (paths ++ path ∷ [])
-  shown-on Has a b c place g ts leads long each told tells old = record { shown = with_turns made (record s { states = s.states ++ x ∷ [] }); has = r.1.0; are = are }
+      → IsShownState Has a b users place g → Tells Has b c users place g ts → HasSeenAll Has a users start paths → HasSeenAll Has c users start (paths ++ path ∷ [])
+  shown-on Has a b c place g ts leads long each reported tells old = record { shown = with_turns made (record s { states = s.states ++ x ∷ [] }); has = r.1.0; are = are }
     where
       s : Shown
       s = old.shown
 
       x : Sight
-      x = record { place = place; going = g; is_over = told.is_over }
+      x = record { place = place; going = g; is_over = reported.is_over }
 
-      r : (made : List Made) × (Has c users (with_turns made (record s { states = s.states ++ x ∷ [] })) × AreToldOf users place g ts made)
-      r = tells (record s { states = s.states ++ x ∷ [] }) (told.sees s old.has)
+      r : (made : List Made) × (Has c users (with_turns made (record s { states = s.states ++ x ∷ [] })) × AreShownOf users place g ts made)
+      r = tells (record s { states = s.states ++ x ∷ [] }) (reported.sees s old.has)
 
       made : List Made
       made = r.0
 
-      mine : AreToldOf users place g ts made
+      mine : AreShownOf users place g ts made
       mine = r.1.1
 
       state : (i : ℕ) (y : Sight) → (slice_get s.states i ≡ Some y) ⊎ ((i ≡ length s.states) × (y ≡ x)) → IsStateAt users start (paths ++ path ∷ []) i y
@@ -189,7 +189,7 @@ module _ (users : List User) (start : Going) (paths : List (List Turn)) (path : 
         path = path;
         at = subst (λ n. slice_get (paths ++ path ∷ []) n ≡ Some path) (sym (e.0 ∙ old.are.long)) (at-last paths path);
         leads = leads;
-        over = told.over;
+        over = reported.over;
       })
 
       turn : (m : Made) → ((j : ℕ) × (slice_get s.turns j ≡ Some m)) ⊎ ((k : ℕ) × (slice_get made k ≡ Some m)) → IsTurnOf users start (paths ++ path ∷ []) m
@@ -211,7 +211,7 @@ module _ (users : List User) (start : Going) (paths : List (List Turn)) (path : 
       all i p u h t (inr e) way step =
           let same : u ≡ g = path-one users start path u g (subst (λ ls. Path (Leads users) start ls u) e.1 way) leads in
           let from : Leads users t g h = subst (λ v. Leads users t v h) same step in
-          subst (λ n. IsShown (s.turns ++ made) n t h) (sym (e.0 ∙ long)) (shown-behind s.turns made place t h (mine.all t h (each t.core t.pick h from) from))
+          subst (λ n. IsShown (s.turns ++ made) n t h) (sym (e.0 ∙ long)) (shown-after s.turns made place t h (mine.all t h (each t.core t.pick h from) from))
 
       low : (j : ℕ) (m : Made) → slice_get s.turns j ≡ Some m → m.place ≤ place
       low j m at = let t = old.are.turns j m at in let below = below-at paths m.place t.path t.at in omega (arith, below, long)
@@ -226,11 +226,11 @@ module _ (users : List User) (start : Going) (paths : List (List Turn)) (path : 
       }
 
 -- what was reported of the end of a path and of all turns from it
-pub seen-nexts : {W : Type 0} (Has : W → List User → Shown → Type 0) (a b c : W) (users : List User) → (boot : Boot) (path : List Turn) (told now : Exploring) (place : ℕ) (g : Going) (ts : List Turn)
-    → Path (Leads users) (beginning users boot) path g → told.users ≡ users → now.users ≡ users → now.boot ≡ boot
-    → HasEachTurn told.users g ts → IsToldState Has a b users place g → Tells Has b c told.users place g ts
+pub seen-nexts : {W : Type 0} (Has : W → List User → Shown → Type 0) (a b c : W) (users : List User) → (boot : Boot) (path : List Turn) (reported now : Exploring) (place : ℕ) (g : Going) (ts : List Turn)
+    → Path (Leads users) (beginning users boot) path g → reported.users ≡ users → now.users ≡ users → now.boot ≡ boot
+    → HasEachTurn reported.users g ts → IsShownState Has a b users place g → Tells Has b c reported.users place g ts
     → (paths : List (List Turn)) → HasSeenAll Has a users (beginning users boot) paths → length paths ≡ place → HasSeenAll Has c now.users (beginning now.users now.boot) (paths ++ path ∷ [])
-seen-nexts Has a b c users boot path told now place g ts end same_users now_users now_boot each state tells paths old long =
+seen-nexts Has a b c users boot path reported now place g ts end same_users now_users now_boot each state tells paths old long =
     let has : HasEachTurn users g ts = subst (λ us. HasEachTurn us g ts) same_users each in
     let all : Tells Has b c users place g ts = subst (λ us. Tells Has b c us place g ts) same_users tells in
     let seen = shown-on users (beginning users boot) paths path Has a b c place g ts end long has state all old in
@@ -297,17 +297,17 @@ pub none-counted : {W : Type 0} (Has : W → List User → Shown → Type 0) (w 
 none-counted Has w users has = record { has = has; counted = record { turns = refl; ends = refl } }
 
 -- a state that was reported, and a turn
-pub state-told : {W E : Type 0} (r : Result (Unit {0}) E) (Has : W → List User → Shown → Type 0) (a b : W) (users : List User) (place : ℕ) (g : Going) (over : Bool)
-    → (over ≡ true → IsOver users g) → (over ≡ false → (h : Going) × Follows users g h) → OnOk r (SeesState Has a b users place g over) → OnOk r (IsToldState Has a b users place g)
-state-told (Ok x) Has a b users place g over ends goes sees = record { is_over = over; over = over-is users g over ends goes; sees = sees }
-state-told (Err e) Has a b users place g over ends goes sees = sees
+pub state-reported : {W E : Type 0} (r : Result (Unit {0}) E) (Has : W → List User → Shown → Type 0) (a b : W) (users : List User) (place : ℕ) (g : Going) (over : Bool)
+    → (over ≡ true → IsOver users g) → (over ≡ false → (h : Going) × Follows users g h) → OnOk r (SeesState Has a b users place g over) → OnOk r (IsShownState Has a b users place g)
+state-reported (Ok x) Has a b users place g over ends goes sees = record { is_over = over; over = over-is users g over ends goes; sees = sees }
+state-reported (Err e) Has a b users place g over ends goes sees = sees
 
-pub turn-told : {W : Type 0} (Has : W → List User → Shown → Type 0) (a b : W) (users : List User) (place : ℕ) (t : Turn) (g h : Going) (answer : Answer)
-    → Leads users t g h → last_answer h.book ≡ Some answer → SeesTurn Has a b users place t answer g.places h → IsToldTurn Has a b users place t g
-turn-told Has a b users place t g h answer leads told sees = record {
+pub turn-reported : {W : Type 0} (Has : W → List User → Shown → Type 0) (a b : W) (users : List User) (place : ℕ) (t : Turn) (g h : Going) (answer : Answer)
+    → Leads users t g h → last_answer h.book ≡ Some answer → SeesTurn Has a b users place t answer g.places h → IsShownTurn Has a b users place t g
+turn-reported Has a b users place t g h answer leads reported sees = record {
   answer = answer;
   going = h;
-  is = record { leads = leads; from = refl; answer = told };
+  is = record { leads = leads; from = refl; answer = reported };
   sees = sees;
 }
 

@@ -11,7 +11,7 @@ use Rattle.mcs_explore_rows.specs.Naming.{Keeps, Known}
 use Rattle.mcs_explore_rows.specs.Rows.{IsKey}
 use Rattle.mcs_explore_orders.specs.Trails.{Leads, Points}
 
--- the users, the boot, the rows that were met, and the points that are kept along a path
+-- the users, the boot, the interned rows, and the points that are cached along a path
 pub record Exploring : Type 0 where
   pub users : List User
   pub boot : Boot
@@ -23,16 +23,16 @@ abbrev pub IsKeyIn : Exploring → Going → List ℕ → Type 0
 IsKeyIn e g numbers = e.keys.is_exact ≡ true → IsKey e.keys.numbered e.keys.met e.users g numbers
 
 -- keys are exact, the boot has no fault, and all numbers of entries are in their ranges
-pub record IsTold (e : Exploring) : Type 0 where
+pub record HasExactKeys (e : Exploring) : Type 0 where
   pub exact : e.keys.is_exact ≡ true
   pub boot : IsFaultless e.boot
   pub in_range : AreInRange e.users
 
--- then no later turn tells two points apart
+-- then no later turn distinguishes two points
 abbrev pub LooksLike : Exploring → Going → Going → Type 0
-LooksLike e g h = IsTold e → AreAlike e.keys.numbered e.users e.boot g h
+LooksLike e g h = HasExactKeys e → AreAlike e.keys.numbered e.users e.boot g h
 
--- the same search, which has met more rows
+-- the same search, which has interned more rows
 pub record IsLater (e f : Exploring) : Type 0 where
   pub users : f.users ≡ e.users
   pub boot : f.boot ≡ e.boot
@@ -44,7 +44,7 @@ pub record IsLater (e f : Exploring) : Type 0 where
 -- and nothing else
 pub record AreNextsOf (e : Exploring) (g : Going) (ts : List Turn) (nexts : List (Turn × List ℕ)) : Type 0 where
   pub each : (i : ℕ) (l : Turn) (k : List ℕ) → slice_get nexts i ≡ Some (l, k) → IsNext (Leads e.users) (IsKeyIn e) g l k
-  pub all : (l : Turn) (h : Going) → Contains ts l → Leads e.users l g h → IsAmong (IsKeyIn e) nexts h
+  pub all : (l : Turn) (h : Going) → Contains ts l → Leads e.users l g h → IsAmong (IsKeyIn e) nexts l h
 
 -- turns with the numbers of keys
 abbrev pub numbers_of : List (Turn × Vec ℕ Global) → List (Turn × List ℕ)

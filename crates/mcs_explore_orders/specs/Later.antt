@@ -1,4 +1,4 @@
--- What stays true of a search that has met more rows, and what equal keys say (own).
+-- What stays true of a search that has interned more rows, and what equal keys imply (own).
 use Rattle.std.specs.Prelude.{◌≡◌, ◌↔◌, true, nat_eq, ℕ, zero, suc, List, [], ◌∷◌}
 use Rattle.std.specs.Cmp.Lexicographic.{pointwise, same_text}
 use Rattle.std.proofs.Common.{refl, sym, ◌∙◌, ap, subst}
@@ -11,7 +11,7 @@ use Rattle.mcs_explore_rows.specs.Rows.{IsKey}
 use Rattle.mcs_explore_rows.proofs.Deciding.{rows-alike}
 use Rattle.mcs_explore_rows.proofs.Naming.{key-kept, key-one}
 use Rattle.mcs_explore_orders.specs.Trails.{Leads}
-use Rattle.mcs_explore_orders.specs.Exploring.{Exploring, IsKeyIn, IsLater, IsTold, LooksLike}
+use Rattle.mcs_explore_orders.specs.Exploring.{Exploring, IsKeyIn, IsLater, HasExactKeys, LooksLike}
 use Rattle.mcs_explore_orders.specs.Watching.{GoesOn, Watching}
 
 pub later-self : (e : Exploring) → IsLater e e
@@ -38,15 +38,15 @@ keeps-start e f a = ap (λ us. beginning us f.boot) a.users ∙ ap (λ b. beginn
 pub keeps-steps : (e f : Exploring) → IsLater e f → (l : Turn) (g h : Going) → Leads e.users l g h ↔ Leads f.users l g h
 keeps-steps e f a l g h = (λ x. subst (λ us. Leads us l g h) (sym a.users) x, λ x. subst (λ us. Leads us l g h) a.users x)
 
-told-on : (e f : Exploring) → IsLater e f → IsTold e → IsTold f
-told-on e f a t = record {
+exact-on : (e f : Exploring) → IsLater e f → HasExactKeys e → HasExactKeys f
+exact-on e f a t = record {
   exact = a.exact ∙ t.exact;
   boot = subst IsFaultless (sym a.boot) t.boot;
   in_range = subst AreInRange (sym a.users) t.in_range;
 }
 
-told-before : (e f : Exploring) → IsLater e f → IsTold f → IsTold e
-told-before e f a t = record {
+exact-before : (e f : Exploring) → IsLater e f → HasExactKeys f → HasExactKeys e
+exact-before e f a t = record {
   exact = sym a.exact ∙ t.exact;
   boot = subst IsFaultless a.boot t.boot;
   in_range = subst AreInRange a.users t.in_range;
@@ -54,8 +54,8 @@ told-before e f a t = record {
 
 pub keeps-likeness : (e f : Exploring) → IsLater e f → (g h : Going) → LooksLike e g h ↔ LooksLike f g h
 keeps-likeness e f a g h = (
-  λ x told. subst (λ n. AreAlike n f.users f.boot g h) (sym a.numbered) (subst (λ b. AreAlike e.keys.numbered f.users b g h) (sym a.boot) (subst (λ us. AreAlike e.keys.numbered us e.boot g h) (sym a.users) (x (told-before e f a told)))),
-  λ x told. subst (λ n. AreAlike n e.users e.boot g h) a.numbered (subst (λ b. AreAlike f.keys.numbered e.users b g h) a.boot (subst (λ us. AreAlike f.keys.numbered us f.boot g h) a.users (x (told-on e f a told)))),
+  λ x known. subst (λ n. AreAlike n f.users f.boot g h) (sym a.numbered) (subst (λ b. AreAlike e.keys.numbered f.users b g h) (sym a.boot) (subst (λ us. AreAlike e.keys.numbered us e.boot g h) (sym a.users) (x (exact-before e f a known)))),
+  λ x known. subst (λ n. AreAlike n e.users e.boot g h) a.numbered (subst (λ b. AreAlike f.keys.numbered e.users b g h) a.boot (subst (λ us. AreAlike f.keys.numbered us f.boot g h) a.users (x (exact-on e f a known)))),
 )
 
 -- the turns of a path from a run on
@@ -72,9 +72,9 @@ keeps-keys e f a g k is exact =
 
 pub one-key : (e : Exploring) (p q : List Turn) (g h : Going) (k : List ℕ) → Path (Leads e.users) (beginning e.users e.boot) p g → Path (Leads e.users) (beginning e.users e.boot) q h
     → IsKeyIn e g k → IsKeyIn e h k → LooksLike e g h
-one-key e p q g h k x y a b told =
-    rows-alike e.keys.numbered e.users e.boot told.boot told.in_range g h (path-reaches e.users e.boot p g x) (path-reaches e.users e.boot q h y)
-    (key-one e.keys.numbered e.keys.met e.users g h k (a told.exact) (b told.exact))
+one-key e p q g h k x y a b known =
+    rows-alike e.keys.numbered e.users e.boot known.boot known.in_range g h (path-reaches e.users e.boot p g x) (path-reaches e.users e.boot q h y)
+    (key-one e.keys.numbered e.keys.met e.users g h k (a known.exact) (b known.exact))
 
 pub same-key : (e : Exploring) (g : Going) (k c : List ℕ) → pointwise nat_eq k c ≡ true → IsKeyIn e g k → IsKeyIn e g c
 same-key e g k c same is = subst (λ ns. IsKeyIn e g ns) (same_text k c (sym same)) is

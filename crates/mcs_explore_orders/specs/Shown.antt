@@ -80,7 +80,7 @@ pub record AreShown (users : List User) (start : Going) (paths : List (List Turn
   pub sorted : (j k : ℕ) (m n : Made) → j ≤ k → slice_get shown.turns j ≡ Some m → slice_get shown.turns k ≡ Some n → m.place ≤ n.place
 
 -- what was reported of these turns from a state: each that the rule has, and no other
-pub record AreToldOf (users : List User) (i : ℕ) (g : Going) (ts : List Turn) (made : List Made) : Type 0 where
+pub record AreShownOf (users : List User) (i : ℕ) (g : Going) (ts : List Turn) (made : List Made) : Type 0 where
   pub place : (j : ℕ) (m : Made) → slice_get made j ≡ Some m → m.place ≡ i
   pub turns : (j : ℕ) (m : Made) → slice_get made j ≡ Some m → IsTurnFrom users g m
   pub all : (t : Turn) (h : Going) → Contains ts t → Leads users t g h → IsShown made i t h
@@ -89,7 +89,7 @@ pub record AreToldOf (users : List User) (i : ℕ) (g : Going) (ts : List Turn) 
 abbrev pub with_turns : List Made → Shown → Shown
 with_turns made shown = record shown { turns = shown.turns ++ made }
 
--- one who has seen what the search has shown so far
+-- a watch that has seen what the search has shown so far
 pub record HasSeenAll {W : Type 0} (Has : W → List User → Shown → Type 0) (watch : W) (users : List User) (start : Going) (paths : List (List Turn)) : Type 0 where
   pub shown : Shown
   pub has : Has watch users shown
@@ -105,43 +105,43 @@ pub record AreCounted (shown : Shown) (made over : ℕ) : Type 0 where
   pub turns : made ≡ min (length shown.turns) (2 ^ 64 - 1)
   pub ends : over ≡ min (ends_in shown.states) (2 ^ 64 - 1)
 
--- one to whom this is reported, and what was counted
+-- a watch, and how many turns and ends were counted
 pub record Counting (W : Type 0) : Type 0 where
   pub watch : W
   pub turns : ℕ
   pub ends : ℕ
 
--- one who has seen this, and what was counted of it
+-- a watch that has seen this, and what was counted of it
 pub record HasCounted {W : Type 0} (Has : W → List User → Shown → Type 0) (c : Counting W) (users : List User) (shown : Shown) : Type 0 where
   pub has : Has c.watch users shown
   pub counted : AreCounted shown c.turns c.ends
 
--- one who sees a state more
+-- a watch that is shown one more state
 abbrev pub SeesState : {W : Type 0} → (W → List User → Shown → Type 0) → W → W → List User → ℕ → Going → Bool → Type 0
 SeesState Has old new users place g over = (shown : Shown) → Has old users shown → Has new users (with_state place g over shown)
 
--- one who sees a turn more
+-- a watch that is shown one more turn
 abbrev pub SeesTurn : {W : Type 0} → (W → List User → Shown → Type 0) → W → W → List User → ℕ → Turn → Answer → List Position → Going → Type 0
 SeesTurn Has old new users place t a from h = (shown : Shown) → Has old users shown → Has new users (with_turn place t a from h shown)
 
--- one who sees the state in a place, and whether it is over
-pub record IsToldState {W : Type 0} (Has : W → List User → Shown → Type 0) (old new : W) (users : List User) (place : ℕ) (g : Going) : Type 0 where
+-- a watch that is shown the state in a place, and whether it is over
+pub record IsShownState {W : Type 0} (Has : W → List User → Shown → Type 0) (old new : W) (users : List User) (place : ℕ) (g : Going) : Type 0 where
   pub is_over : Bool
   pub over : (is_over ≡ true) ↔ IsOver users g
   pub sees : SeesState Has old new users place g is_over
 
--- one who sees a turn from a state, and what it was answered
-pub record IsToldTurn {W : Type 0} (Has : W → List User → Shown → Type 0) (old new : W) (users : List User) (place : ℕ) (t : Turn) (g : Going) : Type 0 where
+-- a watch that is shown a turn from a state, and its answer
+pub record IsShownTurn {W : Type 0} (Has : W → List User → Shown → Type 0) (old new : W) (users : List User) (place : ℕ) (t : Turn) (g : Going) : Type 0 where
   pub answer : Answer
   pub going : Going
   pub is : IsTurnFrom users g (record { place = place; turn = t; answer = answer; from = g.places; going = going })
   pub sees : SeesTurn Has old new users place t answer g.places going
 
--- one to whom a turn more of these is reported, if the rule has it
+-- a watch that is shown one more of these turns, if the rule has it
 abbrev pub TellsOn : {W : Type 0} → (W → List User → Shown → Type 0) → W → W → List User → ℕ → Going → Turn → Type 0
-TellsOn Has old new users place g t = (shown : Shown) (ts : List Turn) (made : List Made) → Has old users (with_turns made shown) → AreToldOf users place g ts made
-    → (more : List Made) × (Has new users (with_turns more shown) × AreToldOf users place g (ts ++ t ∷ []) more)
+TellsOn Has old new users place g t = (shown : Shown) (ts : List Turn) (made : List Made) → Has old users (with_turns made shown) → AreShownOf users place g ts made
+    → (more : List Made) × (Has new users (with_turns more shown) × AreShownOf users place g (ts ++ t ∷ []) more)
 
--- one to whom each of these turns that the rule has is reported
+-- a watch that is shown each of these turns that the rule has
 abbrev pub Tells : {W : Type 0} → (W → List User → Shown → Type 0) → W → W → List User → ℕ → Going → List Turn → Type 0
-Tells Has old new users place g ts = (shown : Shown) → Has old users shown → (made : List Made) × (Has new users (with_turns made shown) × AreToldOf users place g ts made)
+Tells Has old new users place g ts = (shown : Shown) → Has old users shown → (made : List Made) × (Has new users (with_turns made shown) × AreShownOf users place g ts made)

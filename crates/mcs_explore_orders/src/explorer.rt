@@ -5,11 +5,11 @@ ghost use Rattle.mcs_explore_walk.specs.declared.walk.Turn.{Turn};
 ghost use Rattle.mcs_explore_walk.specs.Walks.{HasEachTurn};
 ghost use Rattle.mcs_explore_orders.specs.Trails.{Leads};
 ghost use Rattle.mcs_explore_orders.specs.Exploring.{AreNextsOf, IsKeyIn, numbers_of};
-ghost use Rattle.mcs_explore_orders.specs.Shown.{HasCounted, IsToldState, IsToldTurn, SeesState, SeesTurn, Shown, Tells, TellsOn};
+ghost use Rattle.mcs_explore_orders.specs.Shown.{HasCounted, IsShownState, IsShownTurn, SeesState, SeesTurn, Shown, Tells, TellsOn};
 ghost use Rattle.mcs_explore_orders.specs.Watching.{GoesOn, counting};
 
 use crate::packed::PackedTurn;
-use crate::trail::Trail;
+use crate::trail::PathCache;
 use mcs_explore_keys::{Key, Keys};
 use mcs_explore_search::System;
 use mcs_explore_walk::{OrdersFault, Picks, Turn, Users, Walk};
@@ -67,7 +67,7 @@ pub struct Explorer<'a, W: Watch> {
     boot: &'a Boot,
     users: &'a Users,
     keys: Keys,
-    trail: Trail,
+    trail: PathCache,
     watch: W,
     turns: usize,
     ends: usize,
@@ -136,7 +136,7 @@ impl<'a, W: Watch> Explorer<'a, W> {
             boot,
             users,
             keys: Keys::new(alloc, boot, users, is_exact, numbered),
-            trail: Trail::new(alloc, start),
+            trail: PathCache::new(alloc, start),
             watch,
             turns: 0,
             ends: 0,
@@ -181,7 +181,7 @@ impl<'a, W: Watch> Explorer<'a, W> {
         requires turns { HasEachTurn self.old.search.users walk.now turns.now }
         ensures search { self.new.search ≡ self.old.search }
         ensures aim { W.aim self.new.watch ≡ W.aim self.old.watch }
-        ensures told { OnOk result (IsToldState (HasCounted W.HasSeen)
+        ensures reported { OnOk result (IsShownState (HasCounted W.HasSeen)
             (counting self.old) (counting self.new) self.old.search.users place walk.now) }
     {
         let is_over = walk.is_over(self.users, picks, turns);
@@ -192,7 +192,7 @@ impl<'a, W: Watch> Explorer<'a, W> {
     /// Makes a turn on the walk, and returns the key of the state after it, given the picks of the
     /// cores before it; None if the rule does not allow the turn. The turn starts from the state at
     /// an index.
-    fn behind(
+    fn after_turn(
         &mut self,
         alloc: Global,
         place: usize,
@@ -206,7 +206,7 @@ impl<'a, W: Watch> Explorer<'a, W> {
         ensures some { IfOk result (λ o. IfSome o (λ k. (h : Going)
             × (Leads self.old.search.users turn walk.value h
             × IsKeyIn self.new.search h k.items))) }
-        ensures told { IfOk result (λ o. IfSome o (λ k. IsToldTurn (HasCounted W.HasSeen)
+        ensures reported { IfOk result (λ o. IfSome o (λ k. IsShownTurn (HasCounted W.HasSeen)
             (counting self.old) (counting self.new) self.old.search.users
             place turn walk.value)) }
         ensures none { IfOk result (λ o. IfNone o ((h : Going)
@@ -245,11 +245,11 @@ impl<'a, W: Watch> Explorer<'a, W> {
             → AreNextsOf self.old.search walk.value ts (numbers_of nexts.old.items)
             → AreNextsOf self.new.search walk.value (ts ++ turn ∷ [])
             (numbers_of nexts.new.items)) }
-        ensures told { OnOk result (TellsOn (HasCounted W.HasSeen)
+        ensures reported { OnOk result (TellsOn (HasCounted W.HasSeen)
             (counting self.old) (counting self.new)
             self.old.search.users place walk.value turn) }
     {
-        if let Some(key) = self.behind(alloc, place, turn, picks, walk)? {
+        if let Some(key) = self.after_turn(alloc, place, turn, picks, walk)? {
             let label = PackedTurn::of(turn)?;
             push(nexts, (label, key))?;
         }
@@ -291,7 +291,7 @@ impl<'a, W: Watch> Explorer<'a, W> {
         ensures nexts { OnOk result ((ts : List Turn)
             → AreNextsOf self.old.search walk.now ts (numbers_of nexts.old.items)
             → AreNextsOf self.new.search walk.now (ts ++ turn ∷ []) (numbers_of nexts.new.items)) }
-        ensures told { OnOk result (TellsOn (HasCounted W.HasSeen)
+        ensures reported { OnOk result (TellsOn (HasCounted W.HasSeen)
             (counting self.old) (counting self.new)
             self.old.search.users place walk.now turn) }
     {
@@ -316,7 +316,7 @@ impl<'a, W: Watch> Explorer<'a, W> {
         ensures trail { self.new.search.trail ≡ self.old.search.trail }
         ensures nexts { OnOk result
             (AreNextsOf self.new.search walk.now turns.now (numbers_of nexts.new.items)) }
-        ensures told { OnOk result (Tells (HasCounted W.HasSeen)
+        ensures reported { OnOk result (Tells (HasCounted W.HasSeen)
             (counting self.old) (counting self.new)
             self.old.search.users place walk.now turns.now) }
     {
@@ -341,7 +341,7 @@ impl<'a, W: Watch> Explorer<'a, W> {
         ensures trail { self.new.search.trail ≡ self.old.search.trail }
         ensures nexts { IfOk result (λ nexts.
             AreNextsOf self.new.search walk.value turns.now (numbers_of nexts.items)) }
-        ensures told { OnOk result (Tells (HasCounted W.HasSeen)
+        ensures reported { OnOk result (Tells (HasCounted W.HasSeen)
             (counting self.old) (counting self.new)
             self.old.search.users place walk.value turns.now) }
     {

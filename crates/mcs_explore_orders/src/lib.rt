@@ -11,11 +11,14 @@
 
 mod explorer;
 mod following;
+mod nobody;
 mod packed;
 mod search;
 mod trail;
 
 pub use explorer::{Explorer, Watch};
-pub use mcs_explore_search::Budget;
+pub use mcs_explore_search::{Budget, Edge};
 pub use mcs_explore_walk::{OrdersFault, Pick, Position, Turn, UserList, Users, Walk};
+pub use nobody::Nobody;
+pub use packed::PackedTurn;
 pub use search::{Orders, explore, retrace};

@@ -86,8 +86,8 @@ impl<'a, W: Watch> Orders<'a, W> {
         self.search.is_stopped
     }
 
-    /// Returns the turns between states, by the indices of both.
-    pub fn edges(&self) -> &[Edge]
+    /// Returns the turns between states, each with the indices of both.
+    pub fn edges(&self) -> &[Edge<PackedTurn>]
         ensures { result.now ≡ self.now.search.edges.items }
     {
         &self.search.edges
@@ -183,13 +183,13 @@ pub fn explore<'a, W: Watch>(
     ensures few { IfOk result (λ o.
         AreFoundLast budget.states o.search.done o.search.map.entries) }
     // if keys are exact and all states were expanded, each run ends in a state that no later turn
-    // can tell from one that was found, by no more turns; up to message numbers, if these are not
-    // distinguished
+    // can distinguish from one that was found by no more turns; up to message numbers, if keys do
+    // not distinguish these
     ensures whole { IfOk result (λ o. IsAllExpanded is_exact users.now boot.now
         o.search.done o.search.map.entries
         → AreAllSeen numbered users.now boot.now o.search.map.entries) }
-    // edges are between states that were found; if keys are exact they are the runs of the users,
-    // as far as states were expanded
+    // edges are between states that were found; if keys are exact they are the turns and the runs
+    // of the users, as far as states were expanded
     ensures within { IfOk result (λ o. AreWithin o.search.edges.items
         (length o.search.map.entries)) }
     ensures graph { IfOk result (λ o. IsByExactKeys is_exact users.now boot.now

@@ -35,7 +35,7 @@ impl Model for Stage {
 /// The state where a path begins, and states cached along it. Walks that are no longer needed are
 /// kept as spares for their memory.
 // boxed, since a walk has 864 bytes and is moved often
-pub struct Trail {
+pub struct PathCache {
     start: Walk<PlainLines>,
     stages: Vec<Stage>,
     spare: Vec<Box<Walk<PlainLines>>>,
@@ -43,9 +43,9 @@ pub struct Trail {
 
 // Written by hand as a separate function: a derived drop would be proved again wherever it is
 // freed.
-impl Drop for Trail {
+impl Drop for PathCache {
     fn drop(self) {
-        let Trail {
+        let PathCache {
             start: _,
             stages: _,
             spare: _,
@@ -53,7 +53,7 @@ impl Drop for Trail {
     }
 }
 
-impl Model for Trail {
+impl Model for PathCache {
     ghost use Rattle.mcs_explore_orders.specs.Trails.{Points};
 
     ghost Value = { Points };
@@ -135,12 +135,12 @@ fn copy_of(
     }
 }
 
-impl Trail {
+impl PathCache {
     /// Returns a cache for an empty path.
-    pub fn new(alloc: Global, start: Walk<PlainLines>) -> Trail
+    pub fn new(alloc: Global, start: Walk<PlainLines>) -> PathCache
         ensures { result ≡ record { start = start; points = [] } }
     {
-        Trail {
+        PathCache {
             start,
             stages: Vec::new(alloc),
             spare: Vec::new(alloc),

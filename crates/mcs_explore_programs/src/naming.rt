@@ -24,7 +24,7 @@ impl fmt::Display for Word {
 }
 
 /// How many alternatives a fault lists at most.
-const TOLD: usize = 8;
+const SHOWN: usize = 8;
 
 /// A list of alternatives for a fault: at most eight.
 #[derive(Debug, Drop)]
@@ -46,14 +46,14 @@ impl Listed {
     pub fn add(&mut self, what: &[u8]) -> Result<(), AllocError> {
         let count = self.count;
         self.count = count.saturating_add(1);
-        if count > TOLD {
+        if count > SHOWN {
             return Ok(());
         }
         if count > 0 {
             self.bytes.extend_from_slice(b", ")?;
         }
         self.bytes
-            .extend_from_slice(if count == TOLD { b".." } else { what })
+            .extend_from_slice(if count == SHOWN { b".." } else { what })
     }
 }
 

@@ -1,7 +1,7 @@
 -- The words of a message that a pattern has, one after another.
 use Rattle.std.proofs.Common.{◌≡◌, ◌-◌, ◌==◌, ◌<◌, ◌||◌, ℕ, Bool, true, false, cond, List, [], ◌∷◌, Option, Some, None, refl, sym, ap, ◌∙◌, arith, if◌then◌else◌}
-use Rattle.mcs_explore_questions.specs.declared.forms.Sort.{Sort}
-use Rattle.mcs_explore_questions.specs.declared.forms.Sort.TheVariants as sort
+use Rattle.mcs_explore_questions.specs.declared.forms.WordKind.{WordKind}
+use Rattle.mcs_explore_questions.specs.declared.forms.WordKind.TheVariants as sort
 use Rattle.mcs_explore_questions.specs.Forms.{Fit, put, put_rest, sort_text, take_numbers, take_sort, take_word, taken, is_any}
 use Rattle.mcs_explore_questions.specs.Patterns.{is_rest}
 use Rattle.mcs_explore_questions.specs.Reading.{◌>>=◌, has_words}
@@ -12,7 +12,7 @@ left_of None = []
 left_of (Some f) = f.left
 
 -- a word that was taken is no longer left
-taken_left : (s : Scene) (t : Sort) (f g : Fit) (word : List ℕ) (words : List (List ℕ)) → taken s t f word words ≡ Some g → g.left ≡ words
+taken_left : (s : Scene) (t : WordKind) (f g : Fit) (word : List ℕ) (words : List (List ℕ)) → taken s t f word words ≡ Some g → g.left ≡ words
 taken_left s t f g word words e = by (is_rest word) (is_any word) (sort_text s t word) e
   where
     by : (a b : Bool) (o : Option (List ℕ)) → (if a then Some (put_rest f word words) else if b then Some (put f word words word) else (o >>= λ text. Some (put f word words text))) ≡ Some g → g.left ≡ words

@@ -1,4 +1,4 @@
--- A pattern whose words were taken by a form, or not.
+-- A pattern whose words fit a form, or do not.
 use Rattle.std.proofs.Common.{◌≡◌, ℕ, List, Option, Some, None, sym, ap, ◌∙◌}
 use Rattle.mcs_explore_questions.specs.Forms.{Fit, fitted_by, names_in, take_fields, whole_of}
 use Rattle.mcs_explore_questions.specs.Reading.{◌>>=◌}

@@ -1,5 +1,5 @@
 -- The patterns of answers and records (own): which words a pattern may have, by the form of the
--- lines that it stands for, and the text that comes of it, with ids in place of names.
+-- lines that it matches, and the text that it becomes, with ids in place of names.
 use Rattle.std.specs.Prelude.{ℕ, zero, suc, ◌+◌, ◌-◌, ◌==◌, ◌&&◌, ◌||◌, ◌++◌, Bool, true, false, not, cond, nat_le, length, take, drop, List, [], ◌∷◌, Option, Some, None, bytes_eq, codes, is_some, if◌then◌else◌}
 use Rattle.mcs_types.specs.declared.id.Kind.{Kind}
 use Rattle.mcs_types.specs.declared.id.Kind.TheVariants.{CNode, Thread, Endpoint, Notification, Reply, Context}
@@ -12,13 +12,13 @@ use Rattle.mcs_lab_forms.specs.Numbers.{number_of}
 use Rattle.mcs_explore_questions.specs.declared.forms.Lines.{Lines}
 use Rattle.mcs_explore_questions.specs.declared.forms.Lines.TheVariants as lines
 use Rattle.mcs_explore_questions.specs.declared.forms.Pattern.{Pattern}
-use Rattle.mcs_explore_questions.specs.declared.forms.Sort.{Sort}
-use Rattle.mcs_explore_questions.specs.declared.forms.Sort.TheVariants as sort
+use Rattle.mcs_explore_questions.specs.declared.forms.WordKind.{WordKind}
+use Rattle.mcs_explore_questions.specs.declared.forms.WordKind.TheVariants as sort
 use Rattle.mcs_explore_questions.specs.Patterns.{is_rest}
 use Rattle.mcs_explore_questions.specs.Reading.{◌>>=◌, ◌>>◌, either, has_words, need}
 use Rattle.mcs_explore_questions.specs.There.{Scene, can_be, object_by}
 
--- a word that stands for any
+-- a wildcard for one word
 abbrev pub is_any : List ℕ → Bool
 is_any word = bytes_eq word (codes "*")
 
@@ -89,13 +89,13 @@ is_message [] = false
 is_message (b ∷ bs) = b == 109 && is_some (number_of bs)
 
 -- the bytes after a letter, if it is the first
-abbrev pub behind_letter : ℕ → List ℕ → List ℕ
-behind_letter letter [] = []
-behind_letter letter (b ∷ bs) = cond (b == letter) bs (b ∷ bs)
+abbrev pub after_letter : ℕ → List ℕ → List ℕ
+after_letter letter [] = []
+after_letter letter (b ∷ bs) = cond (b == letter) bs (b ∷ bs)
 
 -- rights: letters of `rwgp` in this order, or a dash
 abbrev pub are_rights : List ℕ → Bool
-are_rights word = bytes_eq word (codes "-") || (not (length word == 0) && length (behind_letter 112 (behind_letter 103 (behind_letter 119 (behind_letter 114 word)))) == 0)
+are_rights word = bytes_eq word (codes "-") || (not (length word == 0) && length (after_letter 112 (after_letter 103 (after_letter 119 (after_letter 114 word)))) == 0)
 
 -- one of three words, or of four
 abbrev pub is_status : List ℕ → Bool
@@ -112,8 +112,8 @@ abbrev pub kept : Bool → List ℕ → Option (List ℕ)
 kept true word = Some word
 kept false word = None
 
--- the text that a word of a sort becomes
-unfoldable pub sort_text : Scene → Sort → List ℕ → Option (List ℕ)
+-- the text in a pattern for a word of a sort
+unfoldable pub sort_text : Scene → WordKind → List ℕ → Option (List ℕ)
 sort_text s (sort.Object kind) word = object_text s kind word
 sort_text s (sort.Maybe kind) word = cond (bytes_eq word (codes "-")) (Some word) (object_text s (Some kind) word)
 sort_text s (sort.Number least most) word = kept (is_between least most (number_of word)) word
@@ -125,20 +125,20 @@ sort_text s sort.Status word = kept (is_status word) word
 sort_text s sort.Mode word = kept (is_mode word) word
 sort_text s sort.Ending word = kept (is_ending word) word
 
--- a word of a sort, or one that stands for any, was taken
-abbrev pub taken : Scene → Sort → Fit → List ℕ → List (List ℕ) → Option Fit
+-- a word of a sort, or a wildcard, was taken
+abbrev pub taken : Scene → WordKind → Fit → List ℕ → List (List ℕ) → Option Fit
 taken s sort f word words =
     if is_rest word then Some (put_rest f word words)
     else if is_any word then Some (put f word words word)
     else (sort_text s sort word >>= λ text. Some (put f word words text))
 
 -- such a word is taken
-abbrev pub take_word : Scene → Sort → Fit → List (List ℕ) → Option Fit
+abbrev pub take_word : Scene → WordKind → Fit → List (List ℕ) → Option Fit
 take_word s sort f [] = None
 take_word s sort f (word ∷ words) = taken s sort f word words
 
 -- nothing is taken after a word for the rest
-abbrev pub take_sort : Scene → Sort → Fit → Option Fit
+abbrev pub take_sort : Scene → WordKind → Fit → Option Fit
 take_sort s sort f = cond f.ended (Some f) (take_word s sort f f.left)
 
 -- the words of a message: at most this many
@@ -156,7 +156,7 @@ take_any_rights s f (word ∷ words) = do
   take_sort s (sort.Number 0 18446744073709551615) next
 
 -- two words of these sorts
-unfoldable pub take_two : Scene → Sort → Sort → Fit → Option Fit
+unfoldable pub take_two : Scene → WordKind → WordKind → Fit → Option Fit
 take_two s first second f = do
   next ← take_sort s first f
   take_sort s second next
@@ -273,7 +273,7 @@ kind_named name =
     else if bytes_eq name (codes "cnode") then Some CNode
     else None
 
--- whether a dash may stand for no object of this name, in a line of this first word
+-- whether a dash may mean that there is no such object, in a line with this first word
 unfoldable pub may_be_none : List ℕ → List ℕ → Bool
 may_be_none first name =
     if bytes_eq first (codes "owes") then bytes_eq name (codes "context")
@@ -282,7 +282,7 @@ may_be_none first name =
     else false
 
 -- the sort of the words of this name that name no object of one kind
-unfoldable pub plain_sort : List ℕ → List ℕ → Sort
+unfoldable pub plain_sort : List ℕ → List ℕ → WordKind
 plain_sort first name =
     if bytes_eq name (codes "object") then sort.Object None
     else if bytes_eq name (codes "message") then sort.Message
@@ -295,12 +295,12 @@ plain_sort first name =
     else sort.Number 0 18446744073709551615
 
 -- the sort of words that name an object of a kind, if there is one
-abbrev pub sort_by : Option Kind → List ℕ → List ℕ → Sort
+abbrev pub sort_by : Option Kind → List ℕ → List ℕ → WordKind
 sort_by None first name = plain_sort first name
 sort_by (Some kind) first name = if may_be_none first name then sort.Maybe kind else sort.Object (Some kind)
 
 -- the sort of the words of this name in the form of lines with this first word
-unfoldable pub sort_of : List ℕ → List ℕ → Sort
+unfoldable pub sort_of : List ℕ → List ℕ → WordKind
 sort_of first name = sort_by (kind_named name) first name
 
 -- the words of this name are taken
@@ -337,7 +337,7 @@ begun word words = record { last = word; left = words; text = word; ended = fals
 unfoldable pub fitted_by : Scene → List ℕ → List ℕ → Fit → Option (List ℕ)
 fitted_by s first form f = take_fields s first (names_in form) f >>= whole_of
 
--- the text of a pattern of lines with this first word, in whose place a word for any may be
+-- the text of a pattern of lines with this first word, or with a wildcard in its place
 unfoldable pub fitted : Scene → Lines → List ℕ → Fit → Option (List ℕ)
 fitted s kind first f = do
   form ← form_of kind first

@@ -19,7 +19,7 @@ use Rattle.mcs_explore_questions.specs.declared.reading.Range.{Range}
 use Rattle.mcs_explore_questions.specs.declared.forms.Lines.{Lines}
 use Rattle.mcs_explore_questions.specs.declared.forms.Lines.TheVariants as lines
 use Rattle.mcs_explore_questions.specs.Forms.{pattern_of}
-use Rattle.mcs_explore_questions.specs.Reading.{◌>>=◌, ◌>>◌, behind, end_of, need, word_then}
+use Rattle.mcs_explore_questions.specs.Reading.{◌>>=◌, ◌>>◌, after_word, end_of, need, word_then}
 use Rattle.mcs_explore_questions.specs.There.{Scene, entries_by, entry_by, labelled, user_by, user_of}
 
 -- what is asked, with the text of a pattern
@@ -98,11 +98,11 @@ abbrev pub bound_of : Option Entries → List ℕ → Option ℕ
 bound_of None word = small_number word
 bound_of (Some es) word = cond (es.first == es.last) (Some es.first) None
 
--- the number that a word of a range says: one that it writes, or that of the entry with this name
+-- the number that a word of a range gives: the number itself, or that of the entry with this name
 abbrev pub bound_by : Scene → User → List ℕ → Option ℕ
 bound_by s u word = bound_of (labelled s u word) word
 
--- the range of entries that a word says
+-- the range of entries that a word gives
 unfoldable pub bounds_by : Scene → User → List ℕ → Option Range
 bounds_by s u word = do
   range ← range_of word
@@ -122,9 +122,9 @@ span_of s u word None = bounds_by s u word >>= span_from u
 span_of s u word (Some es) = Some (record { thread = u.thread; from = es.first - 1; to = es.last; until = until.Given })
 
 -- the span of a user that the first two words name: `in 1..2`, or `in NAME`
-unfoldable pub span_behind : Scene → User → List (List ℕ) → Option (Span × List (List ℕ))
-span_behind s user words = do
-  rest ← behind (codes "in") words
+unfoldable pub span_after : Scene → User → List (List ℕ) → Option (Span × List (List ℕ))
+span_after s user words = do
+  rest ← after_word (codes "in") words
   (word, left) ← word_then rest
   span ← span_of s user word (labelled s user word)
   Some (span, left)
@@ -133,11 +133,11 @@ span_behind s user words = do
 unfoldable pub span_then : Scene → List (List ℕ) → Option (Span × List (List ℕ))
 span_then s words = do
   (user, rest) ← user_then s words
-  span_behind s user rest
+  span_after s user rest
 
 -- `and`, and a span
 unfoldable pub and_span : Scene → List (List ℕ) → Option (Span × List (List ℕ))
-and_span s words = behind (codes "and") words >>= span_then s
+and_span s words = after_word (codes "and") words >>= span_then s
 
 -- a span is added to others, which the words after `and` name
 pub record AddsSpan (s : Scene) (words left : List (List ℕ)) (old new : List Span) : Type 0 where
@@ -180,7 +180,8 @@ abbrev pub has_dot : List ℕ → Bool
 has_dot [] = false
 has_dot (b ∷ bs) = (b == 46) || has_dot bs
 
--- the entries of a user that a word names: those of its name, one by its number, or a range
+-- the entries of a user that a word names: those with this name, the one with this number, or a
+-- range
 abbrev pub entries_of : Scene → User → List ℕ → Option Entries → Option Entries
 entries_of s u word (Some es) = Some es
 entries_of s u word None = cond (has_dot word) (bounds_by s u word >>= entries_from u) (entries_by s u word)
@@ -295,10 +296,10 @@ schedule_asked words = do
 -- `resumed goes on`
 unfoldable pub resumed_asked : List (List ℕ) → Option Said
 resumed_asked words = do
-  rest ← behind (codes "goes") words
-  left ← behind (codes "on") rest
+  rest ← after_word (codes "goes") words
+  left ← after_word (codes "on") rest
   end_of left
-  Some (ruled rule.ToldOnce)
+  Some (ruled rule.ResumedGoesOn)
 
 -- what a first word asks of the answers of an entry
 abbrev pub answered_asked : List ℕ → EventAnswer → Said
@@ -342,8 +343,8 @@ is_of_list us e = not (user_is_program (user_of us e.thread))
 abbrev pub are_of_lists : List User → Event → Event → Bool
 are_of_lists us first second = is_of_list us first && is_of_list us second
 
--- a state does not say of a program whether it came to an entry before: so its entries are none of
--- `answer` and `before`, and it does not go on again
+-- a state does not record whether a program came to an entry before: so its entries are none of
+-- `answer` and `before`, and it does not repeat
 abbrev pub fits : List User → Said → Bool
 fits us (answer event pattern) = is_of_list us event
 fits us (before first second) = are_of_lists us first second
@@ -369,11 +370,11 @@ abbrev pub trimmed : List ℕ → List ℕ
 trimmed text = take (ink_len 0 0 text) text
 
 -- the text after a blank
-abbrev pub behind_blank : List ℕ → Option (List ℕ)
-behind_blank [] = None
-behind_blank (b ∷ bs) = cond (b == 32) (Some bs) None
+abbrev pub after_blank : List ℕ → Option (List ℕ)
+after_blank [] = None
+after_blank (b ∷ bs) = cond (b == 32) (Some bs) None
 
 -- the text of the question of a line `#!`
 abbrev pub question_of : List ℕ → Option (List ℕ)
-question_of (a ∷ b ∷ text) = behind_blank (trimmed text)
+question_of (a ∷ b ∷ text) = after_blank (trimmed text)
 question_of line = None

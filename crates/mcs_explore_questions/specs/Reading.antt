@@ -4,7 +4,7 @@ use denote.Ref.{Bor}
 use Rattle.mcs_explore_questions.specs.declared.fault.QuestionFault.{QuestionFault}
 use Rattle.mcs_explore_questions.specs.declared.fault.QuestionFault.TheVariants as fault
 
--- a reading that gives something, and then one that goes on with it
+-- a reading that gives something, and then one that continues with it
 infixl 10 ◌>>=◌
 abbrev pub ◌>>=◌ : {A B : Type 0} → Option A → (A → Option B) → Option B
 (Some x) >>= f = f x
@@ -31,10 +31,10 @@ abbrev pub word_then : List (List ℕ) → Option (List ℕ × List (List ℕ))
 word_then [] = None
 word_then (word ∷ words) = Some (word, words)
 
--- the words after one that is wanted
-abbrev pub behind : List ℕ → List (List ℕ) → Option (List (List ℕ))
-behind wanted [] = None
-behind wanted (word ∷ words) = if bytes_eq word wanted then Some words else None
+-- the words after one that is expected
+abbrev pub after_word : List ℕ → List (List ℕ) → Option (List (List ℕ))
+after_word wanted [] = None
+after_word wanted (word ∷ words) = if bytes_eq word wanted then Some words else None
 
 -- no word is left
 abbrev pub end_of : List (List ℕ) → Option (Unit {0})

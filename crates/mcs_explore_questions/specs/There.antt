@@ -69,7 +69,7 @@ entry_at u n = cond (n == 0 || nat_lt (length u.entries) n) None (Some (record {
 abbrev pub numbered : User → List ℕ → Option Entries
 numbered u word = number_of word >>= entry_at u
 
--- the entries of a user that a word says: one by its number, or those that have the name
+-- the entries of a user that a word gives: one by its number, or those that have the name
 abbrev pub entries_by : Scene → User → List ℕ → Option Entries
 entries_by s u word = either (numbered u word) (labelled s u word)
 
@@ -77,7 +77,7 @@ entries_by s u word = either (numbered u word) (labelled s u word)
 abbrev pub event_of : User → Entries → Option Event
 event_of u es = cond (es.first == es.last) (Some (record { thread = u.thread; number = es.first })) None
 
--- the one entry of a user that a word says
+-- the one entry of a user that a word gives
 abbrev pub entry_by : Scene → User → List ℕ → Option Event
 entry_by s u word = entries_by s u word >>= event_of u
 

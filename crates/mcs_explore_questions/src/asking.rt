@@ -46,7 +46,7 @@ pub enum Rule {
     By(Schedule),
     /// No user gives an entry again after its answer, even if its thread was restarted before it
     /// ran.
-    ToldOnce,
+    ResumedGoesOn,
 }
 
 /// A question.

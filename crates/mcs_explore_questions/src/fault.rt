@@ -48,7 +48,7 @@ pub enum QuestionFault {
         word: Word,
     },
     #[error("{word} stands behind **, which stands for the rest")]
-    BehindRest {
+    AfterRest {
         word: Word,
     },
     #[error("{word} names no thread that has entries; those are: {there}")]

@@ -3,9 +3,9 @@
 ghost use Rattle.std.specs.Prelude.{ℕ, ◌≡◌, ◌++◌, ◌∷◌, List, false, true, Some, None, IfOk, IfErr, OnOk, bytes_eq, option_copied, option_map};
 ghost use Rattle.mcs_text.specs.Reading.{words_of};
 ghost use Rattle.mcs_text.specs.Spelling.{name_text};
-ghost use Rattle.mcs_explore_questions.specs.Forms.{answer_form, are_rights, begun, behind_letter, end_of, firsts_of, fit_of, fitted, fitted_any, fitted_by, form_of, held, is_any, is_between, is_ending, is_message, is_mode, is_of, is_of_others, is_of_receivers, is_rest_last, is_status, kept, kind_named, may_be_none, message_record, names_in, object_record, object_taken, object_text, object_there, other_record, pattern_by, pattern_of, plain_sort, queue_text, record_form, sort_by, sort_of, sort_text, take_any_rights, take_capability, take_field, take_fields, take_numbers, take_reply, take_rest_of, take_sort, take_two, taken, whole_of};
+ghost use Rattle.mcs_explore_questions.specs.Forms.{answer_form, are_rights, begun, after_letter, end_of, firsts_of, fit_of, fitted, fitted_any, fitted_by, form_of, held, is_any, is_between, is_ending, is_message, is_mode, is_of, is_of_others, is_of_receivers, is_rest_last, is_status, kept, kind_named, may_be_none, message_record, names_in, object_record, object_taken, object_text, object_there, other_record, pattern_by, pattern_of, plain_sort, queue_text, record_form, sort_by, sort_of, sort_text, take_any_rights, take_capability, take_field, take_fields, take_numbers, take_reply, take_rest_of, take_sort, take_two, taken, whole_of};
 ghost use Rattle.mcs_explore_questions.specs.Patterns.{is_rest};
-ghost use Rattle.mcs_explore_questions.specs.declared.forms.Sort.TheVariants as of_sort;
+ghost use Rattle.mcs_explore_questions.specs.declared.forms.WordKind.TheVariants as of_sort;
 ghost use Rattle.mcs_explore_questions.specs.Reading.{Refuses, has_words, is_of_memory, texts};
 ghost use Rattle.mcs_explore_questions.specs.There.{scene_of};
 
@@ -29,7 +29,7 @@ pub enum Lines {
 
 /// What kind of word a form has at a position.
 #[derive(Clone, Copy)]
-enum Sort {
+enum WordKind {
     /// An object of this kind, or of any.
     Object(Option<Kind>),
     /// The same, or a dash for none.
@@ -40,7 +40,7 @@ enum Sort {
     Message,
     /// A queue of an object, as `e1.send`.
     Queue,
-    /// Rights, as `rw`, or a dash for none.
+    /// Rights, such as `rw`, or a dash for none.
     Rights,
     /// Rights, or the bits of a guard.
     Either,
@@ -104,71 +104,71 @@ fn may_be_none(first: &[u8], name: &[u8]) -> bool
 
 /// Returns the kind of word for this name in a form, if it names no object of one kind.
 #[tactic(auto, unfolding(crate::specs::Forms::plain_sort))]
-fn plain_sort(first: &[u8], name: &[u8]) -> Sort
+fn plain_sort(first: &[u8], name: &[u8]) -> WordKind
     ensures { result ≡ plain_sort first.now name.now }
 {
     if is(name, b"object") {
-        return Sort::Object(None);
+        return WordKind::Object(None);
     }
     if is(name, b"message") {
-        return Sort::Message;
+        return WordKind::Message;
     }
     if is(name, b"queue") {
-        return Sort::Queue;
+        return WordKind::Queue;
     }
     if is(name, b"ending") {
-        return Sort::Ending;
+        return WordKind::Ending;
     }
     if is(name, b"mode") {
         return if is(first, b"turns") {
-            Sort::Status
+            WordKind::Status
         } else {
-            Sort::Mode
+            WordKind::Mode
         };
     }
     if is(name, b"priority") || is(name, b"index") {
-        return Sort::Number(0, 255);
+        return WordKind::Number(0, 255);
     }
     if is(name, b"label") {
-        return Sort::Number(0, (1 << LABEL_BITS) - 1);
+        return WordKind::Number(0, (1 << LABEL_BITS) - 1);
     }
     if is(name, b"reason") {
-        return Sort::Number(1, 13);
+        return WordKind::Number(1, 13);
     }
-    Sort::Number(0, u64::MAX)
+    WordKind::Number(0, u64::MAX)
 }
 
 /// Returns the kind of word for which a name stands in the form of the lines that begin with
 /// `first`.
 #[tactic(auto, unfolding(crate::specs::Forms::sort_of))]
-fn sort_of(first: &[u8], name: &[u8]) -> Sort
+fn sort_of(first: &[u8], name: &[u8]) -> WordKind
     ensures { result ≡ sort_of first.now name.now }
 {
     match kind_named(name) {
-        Some(kind) if may_be_none(first, name) => Sort::Maybe(kind),
-        Some(kind) => Sort::Object(Some(kind)),
+        Some(kind) if may_be_none(first, name) => WordKind::Maybe(kind),
+        Some(kind) => WordKind::Object(Some(kind)),
         None => plain_sort(first, name),
     }
 }
 
-/// Returns what a fault says is wanted for a kind of word.
-fn wanted_of(sort: Sort) -> &'static str {
+/// Returns the expected words that a fault names for a kind of word.
+fn wanted_of(sort: WordKind) -> &'static str {
     match sort {
-        Sort::Object(kind) => wanted_kind(kind),
-        Sort::Maybe(kind) => wanted_kind(Some(kind)),
-        Sort::Number(1, 13) => "the number of a refusal, 1 to 13",
-        Sort::Number(_, 255) => "a number up to 255",
-        Sort::Number(_, _) | Sort::Either => "a number",
-        Sort::Message => "a message, as m4",
-        Sort::Queue => "a queue, as e1.send, e1.recv or n1.wait",
-        Sort::Rights => "rights, as rw",
-        Sort::Status => "running, restart or inactive",
-        Sort::Mode => "send, call, mute or give",
-        Sort::Ending => "deleted or cancelled",
+        WordKind::Object(kind) => wanted_kind(kind),
+        WordKind::Maybe(kind) => wanted_kind(Some(kind)),
+        WordKind::Number(1, 13) => "the number of a refusal, 1 to 13",
+        WordKind::Number(_, 255) => "a number up to 255",
+        WordKind::Number(_, _) | WordKind::Either => "a number",
+        WordKind::Message => "a message, as m4",
+        WordKind::Queue => "a queue, as e1.send, e1.recv or n1.wait",
+        WordKind::Rights => "rights, as rw",
+        WordKind::Status => "running, restart or inactive",
+        WordKind::Mode => "send, call, mute or give",
+        WordKind::Ending => "deleted or cancelled",
     }
 }
 
-/// Returns what a fault says is wanted for an object of a kind.
+/// Returns the expected words that a fault names for an object of a kind.
 fn wanted_kind(kind: Option<Kind>) -> &'static str {
     match kind {
         None => "an object",
@@ -189,8 +189,8 @@ fn is_any(word: &[u8]) -> bool
 }
 
 /// Returns the bytes after a letter, if a word begins with it.
-fn behind_letter(letter: u8, word: &[u8]) -> &[u8]
-    ensures { result.now ≡ behind_letter letter word.entry.now }
+fn after_letter(letter: u8, word: &[u8]) -> &[u8]
+    ensures { result.now ≡ after_letter letter word.entry.now }
 {
     match word {
         [first, rest @ ..] if *first == letter => rest,
@@ -198,14 +198,14 @@ fn behind_letter(letter: u8, word: &[u8]) -> &[u8]
     }
 }
 
-/// Returns whether a word writes rights: letters of `rwgp` in this order, or a dash.
+/// Returns whether a word gives rights: letters of `rwgp` in this order, or a dash.
 fn are_rights(word: &[u8]) -> bool
     ensures { result ≡ are_rights word.now }
 {
-    let read = behind_letter(b'r', word);
-    let written = behind_letter(b'w', read);
-    let granted = behind_letter(b'g', written);
-    is(word, b"-") || (!word.is_empty() && behind_letter(b'p', granted).is_empty())
+    let read = after_letter(b'r', word);
+    let written = after_letter(b'w', read);
+    let granted = after_letter(b'g', written);
+    is(word, b"-") || (!word.is_empty() && after_letter(b'p', granted).is_empty())
 }
 
 /// Returns whether there is a number, and it is between two bounds.
@@ -228,7 +228,7 @@ fn is_message(word: &[u8]) -> bool
     }
 }
 
-/// Returns whether a word says what a thread does.
+/// Returns whether a word is a status of a thread.
 fn is_status(word: &[u8]) -> bool
     ensures { result ≡ is_status word.now }
 {
@@ -249,7 +249,7 @@ fn is_ending(word: &[u8]) -> bool
     is(word, b"deleted") || is(word, b"cancelled")
 }
 
-/// Returns the fault for a word that is not what is wanted.
+/// Returns the fault for a word that is not the expected one.
 fn not(alloc: Global, word: &[u8], wanted: &'static str) -> Result<QuestionFault, AllocError>
     ensures { IfOk result (λ e. is_of_memory e ≡ false) }
 {
@@ -277,7 +277,7 @@ fn object_there(
     word: &[u8],
 ) -> Result<ObjId, QuestionFault>
     ensures said { IfOk result (λ o. object_there (scene_of there.entry) kind word.now ≡ Some o) }
-    ensures told { IfErr result (Refuses (object_there (scene_of there.entry) kind word.now)) }
+    ensures error { IfErr result (Refuses (object_there (scene_of there.entry) kind word.now)) }
 {
     let Some(object) = there.object(alloc, word)? else {
         return Err(not(alloc, word, wanted_kind(kind))?);
@@ -317,7 +317,7 @@ fn object_text(
 ) -> Result<Vec<u8>, QuestionFault>
     ensures said { IfOk result (λ v. object_text (scene_of there.entry) kind word.now
         ≡ Some v.items) }
-    ensures told { IfErr result (Refuses (object_text (scene_of there.entry) kind word.now)) }
+    ensures error { IfErr result (Refuses (object_text (scene_of there.entry) kind word.now)) }
 {
     let object = object_there(alloc, there, kind, word)?;
     Ok(id_bytes(alloc, object)?)
@@ -336,15 +336,15 @@ fn with_end(alloc: Global, object: ObjId, end: &[u8]) -> Result<Vec<u8>, AllocEr
 #[tactic(auto, unfolding(crate::specs::Forms::queue_text))]
 fn queue_text(alloc: Global, there: There<'_>, word: &[u8]) -> Result<Vec<u8>, QuestionFault>
     ensures said { IfOk result (λ v. queue_text (scene_of there.entry) word.now ≡ Some v.items) }
-    ensures told { IfErr result (Refuses (queue_text (scene_of there.entry) word.now)) }
+    ensures error { IfErr result (Refuses (queue_text (scene_of there.entry) word.now)) }
 {
     let at = word.len().saturating_sub(5);
     let Some(object) = there.object(alloc, &word[..at])? else {
-        return Err(not(alloc, word, wanted_of(Sort::Queue))?);
+        return Err(not(alloc, word, wanted_of(WordKind::Queue))?);
     };
     let text = with_end(alloc, object, &word[at..])?;
     if queue_of(text.as_slice()).is_none() {
-        return Err(not(alloc, word, wanted_of(Sort::Queue))?);
+        return Err(not(alloc, word, wanted_of(WordKind::Queue))?);
     }
     there.expect(alloc, word, object)?;
     Ok(text)
@@ -358,7 +358,7 @@ fn kept(
     wanted: &'static str,
 ) -> Result<Vec<u8>, QuestionFault>
     ensures said { IfOk result (λ v. kept is_so word.now ≡ Some v.items) }
-    ensures told { IfErr result (Refuses (kept is_so word.now)) }
+    ensures error { IfErr result (Refuses (kept is_so word.now)) }
 {
     if is_so {
         return Ok(Vec::from_slice(alloc, word)?);
@@ -366,34 +366,34 @@ fn kept(
     Err(not(alloc, word, wanted)?)
 }
 
-/// Returns the text for a word of a kind.
+/// Returns the text that replaces a word of a kind in a pattern.
 #[tactic(auto, unfolding(crate::specs::Forms::sort_text))]
 fn sort_text(
     alloc: Global,
     there: There<'_>,
-    sort: Sort,
+    sort: WordKind,
     word: &[u8],
 ) -> Result<Vec<u8>, QuestionFault>
     ensures said { IfOk result (λ v. sort_text (scene_of there.entry) sort word.now
         ≡ Some v.items) }
-    ensures told { IfErr result (Refuses (sort_text (scene_of there.entry) sort word.now)) }
+    ensures error { IfErr result (Refuses (sort_text (scene_of there.entry) sort word.now)) }
 {
     let is_so = match sort {
-        Sort::Object(kind) => return object_text(alloc, there, kind, word),
-        Sort::Maybe(kind) => {
+        WordKind::Object(kind) => return object_text(alloc, there, kind, word),
+        WordKind::Maybe(kind) => {
             if !is(word, b"-") {
                 return object_text(alloc, there, Some(kind), word);
             }
             true
         }
-        Sort::Queue => return queue_text(alloc, there, word),
-        Sort::Number(least, most) => is_between(least, most, number_of(word)),
-        Sort::Message => is_message(word),
-        Sort::Rights => are_rights(word),
-        Sort::Either => are_rights(word) || is_between(0, 64, number_of(word)),
-        Sort::Status => is_status(word),
-        Sort::Mode => is_mode(word),
-        Sort::Ending => is_ending(word),
+        WordKind::Queue => return queue_text(alloc, there, word),
+        WordKind::Number(least, most) => is_between(least, most, number_of(word)),
+        WordKind::Message => is_message(word),
+        WordKind::Rights => are_rights(word),
+        WordKind::Either => are_rights(word) || is_between(0, 64, number_of(word)),
+        WordKind::Status => is_status(word),
+        WordKind::Mode => is_mode(word),
+        WordKind::Ending => is_ending(word),
     };
     kept(alloc, is_so, word, wanted_of(sort))
 }
@@ -419,7 +419,7 @@ impl<'a> Pattern<'a> {
         self.text.extend_from_slice(text)
     }
 
-    /// Adds the wildcard for the rest.
+    /// Adds the wildcard for all the remaining words.
     fn put_rest(&mut self, word: &'a [u8]) -> Result<(), AllocError>
         ensures last { OnOk result (self.new.last.now ≡ word.entry.now) }
         ensures text { OnOk result
@@ -436,14 +436,14 @@ impl<'a> Pattern<'a> {
 fn taken<'a>(
     alloc: Global,
     there: There<'_>,
-    sort: Sort,
+    sort: WordKind,
     word: &'a [u8],
     pattern: &mut Pattern<'a>,
 ) -> Result<(), QuestionFault>
     ensures said { OnOk result ((f : List (List ℕ)) (words : List (List ℕ))
         → taken (scene_of there.entry) sort (fit_of pattern.old f) word.entry.now words
         ≡ Some (fit_of pattern.new words)) }
-    ensures told { IfErr result (λ e. (f : List (List ℕ)) (words : List (List ℕ))
+    ensures error { IfErr result (λ e. (f : List (List ℕ)) (words : List (List ℕ))
         → Refuses (taken (scene_of there.entry) sort
         (fit_of pattern.old f) word.entry.now words) e) }
 {
@@ -465,14 +465,14 @@ fn taken<'a>(
 fn take<'a>(
     alloc: Global,
     there: There<'_>,
-    sort: Sort,
+    sort: WordKind,
     name: &[u8],
     words: &mut Reader<'a>,
     pattern: &mut Pattern<'a>,
 ) -> Result<(), QuestionFault>
     ensures said { OnOk result (take_sort (scene_of there.entry) sort (fit_of pattern.old words.old)
         ≡ Some (fit_of pattern.new words.new)) }
-    ensures told { IfErr result (Refuses (take_sort (scene_of there.entry) sort
+    ensures error { IfErr result (Refuses (take_sort (scene_of there.entry) sort
         (fit_of pattern.old words.old))) }
 {
     if pattern.ended {
@@ -495,14 +495,14 @@ fn take_badged<'a>(
     ensures said { OnOk result (take_two (scene_of there.entry) of_sort.Rights
         (of_sort.Number 0 18446744073709551615) (fit_of pattern.old words.old)
         ≡ Some (fit_of pattern.new words.new)) }
-    ensures told { IfErr result (Refuses (take_two (scene_of there.entry) of_sort.Rights
+    ensures error { IfErr result (Refuses (take_two (scene_of there.entry) of_sort.Rights
         (of_sort.Number 0 18446744073709551615) (fit_of pattern.old words.old))) }
 {
-    take(alloc, there, Sort::Rights, b"rights", words, pattern)?;
+    take(alloc, there, WordKind::Rights, b"rights", words, pattern)?;
     take(
         alloc,
         there,
-        Sort::Number(0, u64::MAX),
+        WordKind::Number(0, u64::MAX),
         b"badge",
         words,
         pattern,
@@ -520,13 +520,13 @@ fn take_guarded<'a>(
     ensures said { OnOk result (take_two (scene_of there.entry) (of_sort.Number 0 64)
         (of_sort.Number 0 18446744073709551615) (fit_of pattern.old words.old)
         ≡ Some (fit_of pattern.new words.new)) }
-    ensures told { IfErr result (Refuses (take_two (scene_of there.entry) (of_sort.Number 0 64)
+    ensures error { IfErr result (Refuses (take_two (scene_of there.entry) (of_sort.Number 0 64)
         (of_sort.Number 0 18446744073709551615) (fit_of pattern.old words.old))) }
 {
     take(
         alloc,
         there,
-        Sort::Number(0, 64),
+        WordKind::Number(0, 64),
         b"guard bits",
         words,
         pattern,
@@ -534,7 +534,7 @@ fn take_guarded<'a>(
     take(
         alloc,
         there,
-        Sort::Number(0, u64::MAX),
+        WordKind::Number(0, u64::MAX),
         b"guard",
         words,
         pattern,
@@ -554,7 +554,7 @@ fn take_rest_of<'a>(
     ensures said { OnOk result (take_rest_of (scene_of there.entry) kind
         (fit_of pattern.old words.old)
         ≡ Some (fit_of pattern.new words.new)) }
-    ensures told { IfErr result (Refuses (take_rest_of (scene_of there.entry) kind
+    ensures error { IfErr result (Refuses (take_rest_of (scene_of there.entry) kind
         (fit_of pattern.old words.old))) }
 {
     match kind {
@@ -575,17 +575,17 @@ fn take_any_rights<'a>(
     ensures said { OnOk result (take_any_rights (scene_of there.entry)
         (fit_of pattern.old words.old) words.old
         ≡ Some (fit_of pattern.new words.new)) }
-    ensures told { IfErr result (Refuses
+    ensures error { IfErr result (Refuses
         (take_any_rights (scene_of there.entry) (fit_of pattern.old words.old) words.old)) }
 {
     let Some(word) = words.next() else {
         return Ok(());
     };
-    taken(alloc, there, Sort::Either, word, pattern)?;
+    taken(alloc, there, WordKind::Either, word, pattern)?;
     take(
         alloc,
         there,
-        Sort::Number(0, u64::MAX),
+        WordKind::Number(0, u64::MAX),
         b"badge",
         words,
         pattern,
@@ -604,7 +604,7 @@ fn take_object<'a>(
     ensures said { OnOk result ((f : List (List ℕ))
         → object_taken (scene_of there.entry) (fit_of pattern.old f) word.entry.now words.old
         ≡ Some (fit_of pattern.new words.new)) }
-    ensures told { IfErr result (λ e. (f : List (List ℕ))
+    ensures error { IfErr result (λ e. (f : List (List ℕ))
         → Refuses (object_taken (scene_of there.entry)
         (fit_of pattern.old f) word.entry.now words.old) e) }
 {
@@ -626,7 +626,7 @@ fn take_held<'a>(
     ensures said { OnOk result ((f : List (List ℕ))
         → held (scene_of there.entry) (fit_of pattern.old f) word.entry.now words.old
         ≡ Some (fit_of pattern.new words.new)) }
-    ensures told { IfErr result (λ e. (f : List (List ℕ))
+    ensures error { IfErr result (λ e. (f : List (List ℕ))
         → Refuses (held (scene_of there.entry) (fit_of pattern.old f) word.entry.now words.old) e) }
 {
     if is_rest(word) {
@@ -655,7 +655,7 @@ fn take_capability<'a>(
     ensures said { OnOk result (take_capability (scene_of there.entry)
         (fit_of pattern.old words.old)
         ≡ Some (fit_of pattern.new words.new)) }
-    ensures told { IfErr result (Refuses (take_capability (scene_of there.entry)
+    ensures error { IfErr result (Refuses (take_capability (scene_of there.entry)
         (fit_of pattern.old words.old))) }
 {
     if pattern.ended {
@@ -677,7 +677,7 @@ fn take_numbers<'a>(
     ensures said { OnOk result (take_numbers (scene_of there.entry) 120
         (fit_of pattern.old words.old) words.old
         ≡ Some (fit_of pattern.new words.new)) }
-    ensures told { IfErr result (Refuses
+    ensures error { IfErr result (Refuses
         (take_numbers (scene_of there.entry) 120 (fit_of pattern.old words.old) words.old)) }
 {
     let mut room = MESSAGE_WORDS;
@@ -685,7 +685,7 @@ fn take_numbers<'a>(
         take(
             alloc,
             there,
-            Sort::Number(0, u64::MAX),
+            WordKind::Number(0, u64::MAX),
             b"word",
             words,
             pattern,
@@ -726,7 +726,7 @@ fn take_reply<'a>(
 ) -> Result<(), QuestionFault>
     ensures said { OnOk result (take_reply (scene_of there.entry) (fit_of pattern.old words.old)
         ≡ Some (fit_of pattern.new words.new)) }
-    ensures told { IfErr result (Refuses (take_reply (scene_of there.entry)
+    ensures error { IfErr result (Refuses (take_reply (scene_of there.entry)
         (fit_of pattern.old words.old))) }
 {
     let is_of_receivers = is_of_receivers(pattern.last);
@@ -736,7 +736,7 @@ fn take_reply<'a>(
     take(
         alloc,
         there,
-        Sort::Maybe(Kind::Reply),
+        WordKind::Maybe(Kind::Reply),
         b"reply",
         words,
         pattern,
@@ -756,7 +756,7 @@ fn take_field<'a>(
     ensures said { OnOk result (take_field (scene_of there.entry) first.now name.now
         (fit_of pattern.old words.old)
         ≡ Some (fit_of pattern.new words.new)) }
-    ensures told { IfErr result (Refuses (take_field (scene_of there.entry) first.now name.now
+    ensures error { IfErr result (Refuses (take_field (scene_of there.entry) first.now name.now
         (fit_of pattern.old words.old))) }
 {
     if is(name, b"words") {
@@ -783,7 +783,7 @@ fn take_fields<'a>(
     ensures said { OnOk result (take_fields (scene_of there.entry) first.now names.old
         (fit_of pattern.old words.old)
         ≡ Some (fit_of pattern.new words.new)) }
-    ensures told { IfErr result (Refuses
+    ensures error { IfErr result (Refuses
         (take_fields (scene_of there.entry) first.now names.old (fit_of pattern.old words.old))) }
 {
     while let Some(name) = names.next_word() {
@@ -800,7 +800,7 @@ fn whole_of(
     pattern: Pattern<'_>,
 ) -> Result<Vec<u8>, QuestionFault>
     ensures said { IfOk result (λ v. whole_of (fit_of pattern.entry words.old) ≡ Some v.items) }
-    ensures told { IfErr result (Refuses (whole_of (fit_of pattern.entry words.old))) }
+    ensures error { IfErr result (Refuses (whole_of (fit_of pattern.entry words.old))) }
 {
     let Pattern { text, .. } = pattern;
     match words.next() {
@@ -987,7 +987,7 @@ fn take_form<'a>(
 ) -> Result<(), QuestionFault>
     ensures said { OnOk result (take_fields (scene_of there.entry) first.now (names_in form.now)
         (fit_of pattern.old words.old) ≡ Some (fit_of pattern.new words.new)) }
-    ensures told { IfErr result (Refuses (take_fields (scene_of there.entry) first.now
+    ensures error { IfErr result (Refuses (take_fields (scene_of there.entry) first.now
         (names_in form.now)
         (fit_of pattern.old words.old))) }
 {
@@ -1011,7 +1011,7 @@ fn fitted_by<'x>(
 ) -> Result<Vec<u8>, QuestionFault>
     ensures said { IfOk result (λ v. fitted_by (scene_of there.entry) first.now form.now
         (begun word.entry.now (texts rest.entry.now)) ≡ Some v.items) }
-    ensures told { IfErr result (Refuses (fitted_by (scene_of there.entry) first.now form.now
+    ensures error { IfErr result (Refuses (fitted_by (scene_of there.entry) first.now form.now
         (begun word.entry.now (texts rest.entry.now)))) }
 {
     let mut pattern = begun(alloc, word)?;
@@ -1034,12 +1034,12 @@ fn no_line(alloc: Global, lines: Lines, first: &[u8]) -> Result<QuestionFault, A
 
 /// Returns the possible first words of lines as a list for a fault.
 fn listed(alloc: Global, lines: Lines) -> Result<Listed, AllocError> {
-    let mut told = Listed::new(alloc);
+    let mut listed = Listed::new(alloc);
     let mut firsts = Words::new(firsts_of(lines));
     while let Some(first) = firsts.next_word() {
-        told.add(first)?;
+        listed.add(first)?;
     }
-    Ok(told)
+    Ok(listed)
 }
 
 /// Returns the text of a pattern by the form of the lines that begin with `first`. `word` is the
@@ -1055,7 +1055,7 @@ fn fitted(
 ) -> Result<Vec<u8>, QuestionFault>
     ensures said { IfOk result (λ v. fitted (scene_of there.entry) lines first.now
         (begun word.now (texts rest.entry.now)) ≡ Some v.items) }
-    ensures told { IfErr result (Refuses (fitted (scene_of there.entry) lines first.now
+    ensures error { IfErr result (Refuses (fitted (scene_of there.entry) lines first.now
         (begun word.now (texts rest.entry.now)))) }
 {
     match form_of(lines, first) {
@@ -1085,8 +1085,8 @@ fn fitted_if(
     }
 }
 
-/// Returns the text of a pattern that begins with a wildcard, by the first form that fits. `NoLine`
-/// if none does.
+/// Returns the text of a pattern whose first word is a wildcard, by the first form that fits.
+/// `NoLine` if no form does.
 fn fitted_any(
     alloc: Global,
     there: There<'_>,
@@ -1097,7 +1097,7 @@ fn fitted_any(
     ensures said { IfOk result (λ v. fitted_any (scene_of there.entry) lines (words_of
         (firsts_of lines))
         (begun word.now (texts rest.entry.now)) ≡ Some v.items) }
-    ensures told { IfErr result (Refuses (fitted_any (scene_of there.entry) lines (words_of
+    ensures error { IfErr result (Refuses (fitted_any (scene_of there.entry) lines (words_of
         (firsts_of lines))
         (begun word.now (texts rest.entry.now)))) }
 {
@@ -1112,29 +1112,29 @@ fn fitted_any(
     })
 }
 
-/// Fails with `BehindRest` if a word is left.
-fn nothing_behind(alloc: Global, words: &mut Reader<'_>) -> Result<(), QuestionFault>
+/// Fails with `AfterRest` if a word is left.
+fn nothing_after(alloc: Global, words: &mut Reader<'_>) -> Result<(), QuestionFault>
     ensures said { OnOk result (has_words words.old ≡ false) }
-    ensures told { IfErr result (λ e. is_of_memory e ≡ false → has_words words.old ≡ true) }
+    ensures error { IfErr result (λ e. is_of_memory e ≡ false → has_words words.old ≡ true) }
 {
     match words.next() {
         None => Ok(()),
-        Some(word) => Err(QuestionFault::BehindRest {
+        Some(word) => Err(QuestionFault::AfterRest {
             word: Word::new(alloc, word)?,
         }),
     }
 }
 
-/// Fails with `BehindRest` if a word follows the wildcard for the rest.
+/// Fails with `AfterRest` if a word follows the wildcard for the rest.
 fn rest_is_last(alloc: Global, words: &[&[u8]]) -> Result<(), QuestionFault>
     ensures said { OnOk result (is_rest_last (texts words.entry.now) ≡ true) }
-    ensures told { IfErr result (λ e.
+    ensures error { IfErr result (λ e.
         is_of_memory e ≡ false → is_rest_last (texts words.entry.now) ≡ false) }
 {
     let mut left = Reader::new(words);
     while let Some(word) = left.next() {
         if is_rest(word) {
-            return nothing_behind(alloc, &mut left);
+            return nothing_after(alloc, &mut left);
         }
     }
     Ok(())
@@ -1152,7 +1152,7 @@ fn pattern_by(
     ensures said { IfOk result (λ v. pattern_by (scene_of there.entry) lines word.now
         (texts rest.entry.now)
         ≡ Some v.items) }
-    ensures told { IfErr result (Refuses (pattern_by (scene_of there.entry) lines word.now
+    ensures error { IfErr result (Refuses (pattern_by (scene_of there.entry) lines word.now
         (texts rest.entry.now))) }
 {
     if is_rest(word) {
@@ -1175,7 +1175,7 @@ pub fn pattern_of(
 ) -> Result<Vec<u8>, QuestionFault>
     ensures said { IfOk result (λ p. pattern_of (scene_of there.entry) lines (texts words.entry.now)
         ≡ Some p.items) }
-    ensures told { IfErr result (Refuses (pattern_of (scene_of there.entry) lines
+    ensures error { IfErr result (Refuses (pattern_of (scene_of there.entry) lines
         (texts words.entry.now))) }
 {
     let [word, rest @ ..] = words else {

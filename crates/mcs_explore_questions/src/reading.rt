@@ -2,7 +2,7 @@
 ghost use Rattle.std.specs.Prelude.{ℕ, ◌≡◌, ◌≢◌, ◌<◌, ◌≤◌, ◌∷◌, ◌++◌, [], false, true, Some, IfOk, IfErr, OnOk, OnErr, length, option_copied, option_map, bytes_eq};
 ghost use Rattle.mcs_text.specs.Reading.{words_of};
 ghost use Rattle.mcs_explore_questions.specs.Forms.{pattern_of};
-ghost use Rattle.mcs_explore_questions.specs.Questions.{AddsSpan, are_of_lists, answers_asked, behind_blank, last_of, answer_pattern, answer_then, answered_asked, and_span, apart_asked, asked_by, asks, again_asked, before_asked, begin_with_waits, bound_by, bounds_by, dots_len, entries_from, entries_of, entries_then, event_then, fits, has_dot, idle_asked, is_of_answers, is_of_list, lines_of, live_asked, never_asked, never_of, number_then, question_of, range_of, range_to, range_words, resumed_asked, said_of, schedule_asked, schedule_by, small_number, span_behind, span_from, span_of, span_then, spans_from, spans_of, user_is_program, user_then};
+ghost use Rattle.mcs_explore_questions.specs.Questions.{AddsSpan, are_of_lists, answers_asked, after_blank, last_of, answer_pattern, answer_then, answered_asked, and_span, apart_asked, asked_by, asks, again_asked, before_asked, begin_with_waits, bound_by, bounds_by, dots_len, entries_from, entries_of, entries_then, event_then, fits, has_dot, idle_asked, is_of_answers, is_of_list, lines_of, live_asked, never_asked, never_of, number_then, question_of, range_of, range_to, range_words, resumed_asked, said_of, schedule_asked, schedule_by, small_number, span_after, span_from, span_of, span_then, spans_from, spans_of, user_is_program, user_then};
 ghost use Rattle.mcs_explore_questions.specs.Reading.{Refuses, is_of_memory, texts, word_then};
 ghost use Rattle.mcs_explore_questions.specs.There.{labelled, scene_of, user_of};
 
@@ -33,7 +33,7 @@ struct Range {
     until: Until,
 }
 
-/// The words at the ends of a range.
+/// The first and the last word of a range of entries.
 #[derive(Clone, Copy)]
 struct Ends<'a> {
     from: &'a [u8],
@@ -41,7 +41,7 @@ struct Ends<'a> {
     until: Until,
 }
 
-/// Returns the fault for a word that is not what is wanted.
+/// Returns the fault for a word that is not the expected one.
 fn not(alloc: Global, word: &[u8], wanted: &'static str) -> Result<QuestionFault, AllocError>
     ensures { IfOk result (λ e. is_of_memory e ≡ false) }
 {
@@ -69,7 +69,7 @@ fn user<'a>(
 ) -> Result<&'a UserList, QuestionFault>
     ensures said { IfOk result (λ l.
         user_then (scene_of there.entry) words.old ≡ Some (l.now, words.new)) }
-    ensures told { IfErr result (Refuses (user_then (scene_of there.entry) words.old)) }
+    ensures error { IfErr result (Refuses (user_then (scene_of there.entry) words.old)) }
     ensures shorter { OnOk result (length words.new < length words.old) }
 {
     let word = words.need("a thread")?;
@@ -81,7 +81,7 @@ fn user<'a>(
 fn event(alloc: Global, there: There<'_>, words: &mut Reader<'_>) -> Result<Event, QuestionFault>
     ensures said { IfOk result (λ e.
         event_then (scene_of there.entry) words.old ≡ Some (e, words.new)) }
-    ensures told { IfErr result (Refuses (event_then (scene_of there.entry) words.old)) }
+    ensures error { IfErr result (Refuses (event_then (scene_of there.entry) words.old)) }
 {
     let list = user(alloc, there, words)?;
     let word = words.need("the number of an entry, or its name")?;
@@ -103,10 +103,10 @@ fn dots_len(word: &[u8]) -> usize
 }
 
 /// Returns the ends of a range; `=` may precede the second.
-fn range_to<'a>(from: &'a [u8], behind: &'a [u8]) -> Ends<'a>
-    ensures { range_words result ≡ range_to from.entry.now behind.entry.now }
+fn range_to<'a>(from: &'a [u8], after: &'a [u8]) -> Ends<'a>
+    ensures { range_words result ≡ range_to from.entry.now after.entry.now }
 {
-    if let [b'=', to @ ..] = behind {
+    if let [b'=', to @ ..] = after {
         return Ends {
             from,
             to,
@@ -115,7 +115,7 @@ fn range_to<'a>(from: &'a [u8], behind: &'a [u8]) -> Ends<'a>
     }
     Ends {
         from,
-        to: behind,
+        to: after,
         until: Until::Given,
     }
 }
@@ -175,7 +175,7 @@ fn span_from(
     range: Range,
 ) -> Result<Span, QuestionFault>
     ensures said { IfOk result (λ s. span_from list.now range ≡ Some s) }
-    ensures told { IfErr result (Refuses (span_from list.now range)) }
+    ensures error { IfErr result (Refuses (span_from list.now range)) }
 {
     if range.to > list.entries.len() {
         return Err(no_entry(alloc, list, word)?);
@@ -200,7 +200,7 @@ fn span_of(
 ) -> Result<Span, QuestionFault>
     ensures said { IfOk result (λ s. span_of (scene_of there.entry) list.now word.now
         (labelled (scene_of there.entry) list.now word.now) ≡ Some s) }
-    ensures told { IfErr result (Refuses (span_of (scene_of there.entry) list.now word.now
+    ensures error { IfErr result (Refuses (span_of (scene_of there.entry) list.now word.now
         (labelled (scene_of there.entry) list.now word.now))) }
 {
     if let Some(Entries { first, last }) = there.labelled(list, word) {
@@ -218,17 +218,17 @@ fn span_of(
 }
 
 /// Reads the span of a user that the next two words name: `in 1..2`, or `in NAME`.
-#[tactic(auto, unfolding(crate::specs::Questions::span_behind))]
-fn span_behind(
+#[tactic(auto, unfolding(crate::specs::Questions::span_after))]
+fn span_after(
     alloc: Global,
     there: There<'_>,
     list: &UserList,
     words: &mut Reader<'_>,
 ) -> Result<Span, QuestionFault>
     ensures said { IfOk result (λ s.
-        span_behind (scene_of there.entry) list.now words.old ≡ Some (s, words.new)) }
-    ensures told { IfErr result (Refuses
-        (span_behind (scene_of there.entry) list.now words.old)) }
+        span_after (scene_of there.entry) list.now words.old ≡ Some (s, words.new)) }
+    ensures error { IfErr result (Refuses
+        (span_after (scene_of there.entry) list.now words.old)) }
     ensures shorter { OnOk result (length words.new < length words.old) }
 {
     words.expect(alloc, "in")?;
@@ -241,11 +241,11 @@ fn span_behind(
 fn span(alloc: Global, there: There<'_>, words: &mut Reader<'_>) -> Result<Span, QuestionFault>
     ensures said { IfOk result (λ s.
         span_then (scene_of there.entry) words.old ≡ Some (s, words.new)) }
-    ensures told { IfErr result (Refuses (span_then (scene_of there.entry) words.old)) }
+    ensures error { IfErr result (Refuses (span_then (scene_of there.entry) words.old)) }
     ensures shorter { OnOk result (length words.new < length words.old) }
 {
     let list = user(alloc, there, words)?;
-    span_behind(alloc, there, list, words)
+    span_after(alloc, there, list, words)
 }
 
 /// Reads `and` and a span.
@@ -253,7 +253,7 @@ fn span(alloc: Global, there: There<'_>, words: &mut Reader<'_>) -> Result<Span,
 fn and_span(alloc: Global, there: There<'_>, words: &mut Reader<'_>) -> Result<Span, QuestionFault>
     ensures said { IfOk result (λ s.
         and_span (scene_of there.entry) words.old ≡ Some (s, words.new)) }
-    ensures told { IfErr result (Refuses (and_span (scene_of there.entry) words.old)) }
+    ensures error { IfErr result (Refuses (and_span (scene_of there.entry) words.old)) }
     ensures shorter { OnOk result (length words.new < length words.old) }
 {
     words.expect(alloc, "and")?;
@@ -269,7 +269,7 @@ fn push_span(
 ) -> Result<(), QuestionFault>
     ensures said { OnOk result (AddsSpan (scene_of there.entry) words.old words.new
         spans.old.items spans.new.items) }
-    ensures told { IfErr result (Refuses (and_span (scene_of there.entry) words.old)) }
+    ensures error { IfErr result (Refuses (and_span (scene_of there.entry) words.old)) }
     ensures shorter { OnOk result (length words.new < length words.old) }
 {
     let span = and_span(alloc, there, words)?;
@@ -286,7 +286,7 @@ fn push_spans(
 ) -> Result<(), QuestionFault>
     ensures said { OnOk result (spans_from (length words.old) (scene_of there.entry)
         spans.old.items words.old ≡ Some spans.new.items) }
-    ensures told { IfErr result (Refuses (spans_from (length words.old) (scene_of there.entry)
+    ensures error { IfErr result (Refuses (spans_from (length words.old) (scene_of there.entry)
         spans.old.items words.old)) }
 {
     'turns: while words.has_more() {
@@ -305,11 +305,11 @@ fn apart(
 ) -> Result<Asked, QuestionFault>
     ensures said { IfOk result (λ a. apart_asked (scene_of there.entry) (first.now ∷ words.old)
         ≡ Some (said_of a)) }
-    ensures told { IfErr result (Refuses
+    ensures error { IfErr result (Refuses
         (apart_asked (scene_of there.entry) (first.now ∷ words.old))) }
 {
     let list = there.user(alloc, first)?;
-    let span = span_behind(alloc, there, list, words)?;
+    let span = span_after(alloc, there, list, words)?;
     let mut spans = one_span(alloc, span)?;
     push_spans(alloc, there, words, &mut spans)?;
     Ok(Asked::Apart { spans })
@@ -358,7 +358,7 @@ fn never_of(
 ) -> Result<Asked, QuestionFault>
     ensures said { IfOk result (λ a. never_of (scene_of there.entry) sign.now
         (texts words.entry.now) lines ≡ Some (said_of a)) }
-    ensures told { IfErr result (Refuses (never_of (scene_of there.entry) sign.now
+    ensures error { IfErr result (Refuses (never_of (scene_of there.entry) sign.now
         (texts words.entry.now) lines)) }
 {
     let text = pattern_of(alloc, there, lines, words)?;
@@ -371,7 +371,7 @@ fn never_of(
 fn never(alloc: Global, there: There<'_>, words: &mut Reader<'_>) -> Result<Asked, QuestionFault>
     ensures said { IfOk result (λ a. never_asked (scene_of there.entry) words.old
         ≡ Some (said_of a)) }
-    ensures told { IfErr result (Refuses (never_asked (scene_of there.entry) words.old)) }
+    ensures error { IfErr result (Refuses (never_asked (scene_of there.entry) words.old)) }
 {
     let word = words.need("a thread")?;
     match lines_of(word) {
@@ -411,7 +411,7 @@ fn entries_from(
     range: Range,
 ) -> Result<Entries, QuestionFault>
     ensures said { IfOk result (λ es. entries_from list.now range ≡ Some es) }
-    ensures told { IfErr result (Refuses (entries_from list.now range)) }
+    ensures error { IfErr result (Refuses (entries_from list.now range)) }
 {
     let last = last_of(range);
     if range.from == 0 || last > list.entries.len() {
@@ -435,7 +435,7 @@ fn entries_of(
 ) -> Result<Entries, QuestionFault>
     ensures said { IfOk result (λ es. entries_of (scene_of there.entry) list.now word.now
         (labelled (scene_of there.entry) list.now word.now) ≡ Some es) }
-    ensures told { IfErr result (Refuses (entries_of (scene_of there.entry) list.now word.now
+    ensures error { IfErr result (Refuses (entries_of (scene_of there.entry) list.now word.now
         (labelled (scene_of there.entry) list.now word.now))) }
 {
     if let Some(entries) = there.labelled(list, word) {
@@ -460,7 +460,7 @@ fn entries(
 ) -> Result<Entries, QuestionFault>
     ensures said { IfOk result (λ es.
         entries_then (scene_of there.entry) list.now words.old ≡ Some (es, words.new)) }
-    ensures told { IfErr result (Refuses
+    ensures error { IfErr result (Refuses
         (entries_then (scene_of there.entry) list.now words.old)) }
 {
     let Some(word) = words.next() else {
@@ -475,7 +475,7 @@ fn entries(
 fn idle(alloc: Global, there: There<'_>, words: &mut Reader<'_>) -> Result<Asked, QuestionFault>
     ensures said { IfOk result (λ a. idle_asked (scene_of there.entry) words.old
         ≡ Some (said_of a)) }
-    ensures told { IfErr result (Refuses (idle_asked (scene_of there.entry) words.old)) }
+    ensures error { IfErr result (Refuses (idle_asked (scene_of there.entry) words.old)) }
 {
     let list = user(alloc, there, words)?;
     let entries = entries(alloc, there, list, words)?;
@@ -496,7 +496,7 @@ fn number(
 ) -> Result<Option<usize>, QuestionFault>
     ensures said { IfOk result (λ n.
         number_then (scene_of there.entry) list.now words.old ≡ Some (n, words.new)) }
-    ensures told { IfErr result (Refuses
+    ensures error { IfErr result (Refuses
         (number_then (scene_of there.entry) list.now words.old)) }
 {
     let Some(word) = words.next() else {
@@ -512,7 +512,7 @@ fn number(
 fn live(alloc: Global, there: There<'_>, words: &mut Reader<'_>) -> Result<Asked, QuestionFault>
     ensures said { IfOk result (λ a. live_asked (scene_of there.entry) words.old
         ≡ Some (said_of a)) }
-    ensures told { IfErr result (Refuses (live_asked (scene_of there.entry) words.old)) }
+    ensures error { IfErr result (Refuses (live_asked (scene_of there.entry) words.old)) }
 {
     let list = user(alloc, there, words)?;
     let number = number(alloc, there, list, words)?;
@@ -539,7 +539,7 @@ fn begin_with_waits(words: &[&[u8]]) -> bool
 fn answer(alloc: Global, there: There<'_>, words: &[&[u8]]) -> Result<Vec<u8>, QuestionFault>
     ensures said { IfOk result (λ p.
         answer_pattern (scene_of there.entry) (texts words.entry.now) ≡ Some p.items) }
-    ensures told { IfErr result (Refuses
+    ensures error { IfErr result (Refuses
         (answer_pattern (scene_of there.entry) (texts words.entry.now))) }
 {
     if begin_with_waits(words) {
@@ -559,7 +559,7 @@ fn event_answer(
 ) -> Result<(Event, Vec<u8>), QuestionFault>
     ensures said { IfOk result (λ r. answer_then (scene_of there.entry) words.old
         ≡ Some (record { event = r.0; pattern = r.1.items })) }
-    ensures told { IfErr result (Refuses (answer_then (scene_of there.entry) words.old)) }
+    ensures error { IfErr result (Refuses (answer_then (scene_of there.entry) words.old)) }
 {
     let event = event(alloc, there, words)?;
     let pattern = answer(alloc, there, words.left())?;
@@ -597,7 +597,7 @@ fn of_answers(
 ) -> Result<Asked, QuestionFault>
     ensures said { IfOk result (λ a. answers_asked (scene_of there.entry) first.now words.old
         ≡ Some (said_of a)) }
-    ensures told { IfErr result (Refuses
+    ensures error { IfErr result (Refuses
         (answers_asked (scene_of there.entry) first.now words.old)) }
 {
     let (event, pattern) = event_answer(alloc, there, words)?;
@@ -609,7 +609,7 @@ fn of_answers(
 fn before(alloc: Global, there: There<'_>, words: &mut Reader<'_>) -> Result<Asked, QuestionFault>
     ensures said { IfOk result (λ a. before_asked (scene_of there.entry) words.old
         ≡ Some (said_of a)) }
-    ensures told { IfErr result (Refuses (before_asked (scene_of there.entry) words.old)) }
+    ensures error { IfErr result (Refuses (before_asked (scene_of there.entry) words.old)) }
 {
     let first = event(alloc, there, words)?;
     let second = event(alloc, there, words)?;
@@ -622,7 +622,7 @@ fn before(alloc: Global, there: There<'_>, words: &mut Reader<'_>) -> Result<Ask
 fn again(alloc: Global, there: There<'_>, words: &mut Reader<'_>) -> Result<Asked, QuestionFault>
     ensures said { IfOk result (λ a. again_asked (scene_of there.entry) words.old
         ≡ Some (said_of a)) }
-    ensures told { IfErr result (Refuses (again_asked (scene_of there.entry) words.old)) }
+    ensures error { IfErr result (Refuses (again_asked (scene_of there.entry) words.old)) }
 {
     let event = event(alloc, there, words)?;
     words.end(alloc)?;
@@ -649,7 +649,7 @@ fn schedule_by(word: &[u8]) -> Option<Schedule>
 #[tactic(auto, unfolding(crate::specs::Questions::schedule_asked))]
 fn schedule(alloc: Global, words: &mut Reader<'_>) -> Result<Asked, QuestionFault>
     ensures said { IfOk result (λ a. schedule_asked words.old ≡ Some (said_of a)) }
-    ensures told { IfErr result (Refuses (schedule_asked words.old)) }
+    ensures error { IfErr result (Refuses (schedule_asked words.old)) }
 {
     let word = words.need(SCHEDULES)?;
     let Some(by) = schedule_by(word) else {
@@ -663,13 +663,13 @@ fn schedule(alloc: Global, words: &mut Reader<'_>) -> Result<Asked, QuestionFaul
 #[tactic(auto, unfolding(crate::specs::Questions::resumed_asked))]
 fn resumed(alloc: Global, words: &mut Reader<'_>) -> Result<Asked, QuestionFault>
     ensures said { IfOk result (λ a. resumed_asked words.old ≡ Some (said_of a)) }
-    ensures told { IfErr result (Refuses (resumed_asked words.old)) }
+    ensures error { IfErr result (Refuses (resumed_asked words.old)) }
 {
     words.expect(alloc, "goes")?;
     words.expect(alloc, "on")?;
     words.end(alloc)?;
     Ok(Asked::Ruled {
-        rule: Rule::ToldOnce,
+        rule: Rule::ResumedGoesOn,
     })
 }
 
@@ -700,7 +700,7 @@ fn asked(
 ) -> Result<Asked, QuestionFault>
     ensures said { IfOk result (λ a. asked_by (scene_of there.entry) first.now words.old
         ≡ Some (said_of a)) }
-    ensures told { IfErr result (Refuses
+    ensures error { IfErr result (Refuses
         (asked_by (scene_of there.entry) first.now words.old)) }
 {
     if is(first, b"idle") {
@@ -731,8 +731,8 @@ fn asked(
 }
 
 /// Returns the text after the blank with which it begins.
-fn behind_blank(text: &[u8]) -> Option<&[u8]>
-    ensures { option_copied result ≡ behind_blank text.entry.now }
+fn after_blank(text: &[u8]) -> Option<&[u8]>
+    ensures { option_copied result ≡ after_blank text.entry.now }
 {
     match text {
         [b' ', rest @ ..] => Some(rest),
@@ -756,13 +756,13 @@ fn no_blank(alloc: Global, text: &[u8]) -> Result<QuestionFault, AllocError>
 /// end. `NoBlank` without the blank, `Nothing` without a text.
 pub fn question_of(alloc: Global, line: &[u8]) -> Result<&[u8], QuestionFault>
     ensures said { IfOk result (λ text. question_of line.entry.now ≡ Some text.now) }
-    ensures told { IfErr result (Refuses (question_of line.entry.now)) }
+    ensures error { IfErr result (Refuses (question_of line.entry.now)) }
 {
-    let [_, _, behind @ ..] = line else {
+    let [_, _, after @ ..] = line else {
         return Err(QuestionFault::Nothing { there: FIRSTS });
     };
-    let text = trimmed(behind);
-    match behind_blank(text) {
+    let text = trimmed(after);
+    match after_blank(text) {
         Some(question) => Ok(question),
         None => Err(no_blank(alloc, text)?),
     }
@@ -780,7 +780,7 @@ fn first_word(text: &[u8]) -> &[u8] {
 #[tactic(auto, unfolding(crate::specs::Questions::asks))]
 fn asked_in(alloc: Global, there: There<'_>, words: &mut Reader<'_>) -> Result<Asked, QuestionFault>
     ensures said { IfOk result (λ a. asks (scene_of there.entry) words.old ≡ Some (said_of a)) }
-    ensures told { IfErr result (Refuses (asks (scene_of there.entry) words.old)) }
+    ensures error { IfErr result (Refuses (asks (scene_of there.entry) words.old)) }
 {
     let first = words.need("a question")?;
     let asked = asked(alloc, there, first, words)?;
@@ -793,7 +793,7 @@ fn asked_in(alloc: Global, there: There<'_>, words: &mut Reader<'_>) -> Result<A
 pub fn asked_of(alloc: Global, there: There<'_>, text: &[u8]) -> Result<Asked, QuestionFault>
     ensures said { IfOk result (λ a.
         asks (scene_of there.entry) (words_of text.now) ≡ Some (said_of a)) }
-    ensures told { IfErr result (Refuses (asks (scene_of there.entry) (words_of text.now))) }
+    ensures error { IfErr result (Refuses (asks (scene_of there.entry) (words_of text.now))) }
 {
     let words = words_of(alloc, text)?;
     asked_in(alloc, there, &mut Reader::new(words.as_slice()))
@@ -817,7 +817,8 @@ fn is_of_list(
     instead: &'static str,
 ) -> Result<(), QuestionFault>
     ensures said { OnOk result (is_of_list users.now event ≡ true) }
-    ensures told { IfErr result (λ e. is_of_memory e ≡ false → is_of_list users.now event ≡ false) }
+    ensures error { IfErr result
+        (λ e. is_of_memory e ≡ false → is_of_list users.now event ≡ false) }
 {
     if !has_program(users, event.thread) {
         return Ok(());
@@ -832,7 +833,8 @@ fn is_of_list(
 /// Fails with `AgainProgram` if the user of a thread has a program, which decides what comes next.
 fn goes_on_again(alloc: Global, users: &Users, event: Event) -> Result<(), QuestionFault>
     ensures said { OnOk result (is_of_list users.now event ≡ true) }
-    ensures told { IfErr result (λ e. is_of_memory e ≡ false → is_of_list users.now event ≡ false) }
+    ensures error { IfErr result
+        (λ e. is_of_memory e ≡ false → is_of_list users.now event ≡ false) }
 {
     if !has_program(users, event.thread) {
         return Ok(());
@@ -850,7 +852,7 @@ fn are_of_lists(
     second: Event,
 ) -> Result<(), QuestionFault>
     ensures said { OnOk result (are_of_lists users.now first second ≡ true) }
-    ensures told { IfErr result (λ e.
+    ensures error { IfErr result (λ e.
         is_of_memory e ≡ false → are_of_lists users.now first second ≡ false) }
 {
     is_of_list(alloc, users, first, "never")?;
@@ -861,7 +863,7 @@ fn are_of_lists(
 /// which a state does not say: with AgainProgram for `again`, and else with OfProgram.
 fn fits_programs(alloc: Global, users: &Users, asked: &Asked) -> Result<(), QuestionFault>
     ensures said { OnOk result (fits users.now (said_of asked.now) ≡ true) }
-    ensures told { IfErr result (λ e.
+    ensures error { IfErr result (λ e.
         is_of_memory e ≡ false → fits users.now (said_of asked.now) ≡ false) }
 {
     match asked {

@@ -8,7 +8,7 @@ ghost use Rattle.mcs_explore_questions.specs.There.{can_be, is_made_later, made,
 use crate::asking::{Entries, Event};
 use crate::fault::QuestionFault;
 use mcs_explore_programs::{Label, Listed, ProgramFault, Word};
-use mcs_lab_check::{Named, Names, object_of};
+use mcs_lab_check::{Labels, Named, object_of};
 use mcs_lab_forms::number_of;
 use mcs_text::letter;
 use mcs_types::{BootLine, Kind, ObjId};
@@ -21,7 +21,7 @@ use std::alloc::{AllocError, Global};
 pub struct There<'a> {
     pub boot: &'a [BootLine],
     pub users: &'a Users,
-    pub names: &'a Names,
+    pub names: &'a Labels,
     pub labels: &'a [Label],
 }
 
@@ -90,7 +90,7 @@ impl<'a> There<'a> {
     /// Returns the object that a word names. `Several` if two have the name.
     pub fn object(&self, alloc: Global, word: &[u8]) -> Result<Option<ObjId>, QuestionFault>
         ensures said { IfOk result (λ o. object_by (scene_of self.now) word.now ≡ Some o) }
-        ensures told { IfErr result (Refuses (object_by (scene_of self.now) word.now)) }
+        ensures error { IfErr result (Refuses (object_by (scene_of self.now) word.now)) }
     {
         match self.named(word) {
             Named::Nothing => Ok(None),
@@ -129,7 +129,7 @@ impl<'a> There<'a> {
     /// Fails with `NoObject` if the object that a word names can never exist.
     pub fn expect(&self, alloc: Global, word: &[u8], object: ObjId) -> Result<(), QuestionFault>
         ensures said { OnOk result (can_be (scene_of self.now) object ≡ true) }
-        ensures told { IfErr result (λ e.
+        ensures error { IfErr result (λ e.
             is_of_memory e ≡ false → can_be (scene_of self.now) object ≡ false) }
     {
         if self.can_be(object) {
@@ -143,13 +143,13 @@ impl<'a> There<'a> {
 
     /// Returns the objects of a kind that the boot makes, as a list for a fault.
     fn objects(&self, alloc: Global, kind: Kind) -> Result<Listed, AllocError> {
-        let mut told = Listed::new(alloc);
+        let mut listed = Listed::new(alloc);
         let mut serial: u32 = 0;
         for _ in 0..self.count(kind) {
             serial = serial.saturating_add(1);
-            told.add(id_text(alloc, ObjId { kind, serial })?.as_bytes())?;
+            listed.add(id_text(alloc, ObjId { kind, serial })?.as_bytes())?;
         }
-        Ok(told)
+        Ok(listed)
     }
 
     /// The thread of the boot that a word names. `NoThread` if it names none, `Several` if two
@@ -174,11 +174,11 @@ impl<'a> There<'a> {
 
     /// Returns the threads that have entries, as a list for a fault.
     fn threads(&self, alloc: Global) -> Result<Listed, AllocError> {
-        let mut told = Listed::new(alloc);
+        let mut listed = Listed::new(alloc);
         for list in self.users.lists() {
-            told.add(id_text(alloc, list.thread)?.as_bytes())?;
+            listed.add(id_text(alloc, list.thread)?.as_bytes())?;
         }
-        Ok(told)
+        Ok(listed)
     }
 
     /// The fault of a word that names no user.
@@ -194,7 +194,7 @@ impl<'a> There<'a> {
     /// The list of the user that a word names. `NoUser` if it names none.
     pub fn user(&self, alloc: Global, word: &[u8]) -> Result<&'a UserList, QuestionFault>
         ensures said { IfOk result (λ l. user_by (scene_of self.now) word.now ≡ Some l.now) }
-        ensures told { IfErr result (Refuses (user_by (scene_of self.now) word.now)) }
+        ensures error { IfErr result (Refuses (user_by (scene_of self.now) word.now)) }
     {
         let Some(thread) = self.object(alloc, word)? else {
             return Err(self.no_user(alloc, word)?);
@@ -272,7 +272,7 @@ impl<'a> There<'a> {
     ) -> Result<Entries, QuestionFault>
         ensures said { IfOk result (λ es.
             entries_by (scene_of self.now) list.now word.now ≡ Some es) }
-        ensures told { IfErr result (Refuses
+        ensures error { IfErr result (Refuses
             (entries_by (scene_of self.now) list.now word.now)) }
     {
         match self.entries_by(list, word) {
@@ -285,7 +285,7 @@ impl<'a> There<'a> {
     /// means several.
     pub fn entry(&self, alloc: Global, list: &UserList, word: &[u8]) -> Result<Event, QuestionFault>
         ensures said { IfOk result (λ e. entry_by (scene_of self.now) list.now word.now ≡ Some e) }
-        ensures told { IfErr result (Refuses (entry_by (scene_of self.now) list.now word.now)) }
+        ensures error { IfErr result (Refuses (entry_by (scene_of self.now) list.now word.now)) }
     {
         let Entries { first, last } = self.entries(alloc, list, word)?;
         if first == last {

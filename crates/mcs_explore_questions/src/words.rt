@@ -2,7 +2,7 @@
 ghost use Rattle.std.specs.Prelude.{◌≡◌, ◌<◌, ◌≤◌, ◌∷◌, [], length, Some, IfOk, IfErr, OnOk, OnErr, IfSome, IfNone, option_copied, option_map, slice_get, ◌++◌};
 ghost use Rattle.mcs_text.specs.Reading.{words_of};
 ghost use Rattle.mcs_explore_questions.specs.Questions.{ink_len, trimmed};
-ghost use Rattle.mcs_explore_questions.specs.Reading.{Refuses, behind, end_of, has_words, texts, word_then};
+ghost use Rattle.mcs_explore_questions.specs.Reading.{Refuses, after_word, end_of, has_words, texts, word_then};
 
 use crate::fault::QuestionFault;
 use mcs_explore_programs::Word;
@@ -64,7 +64,7 @@ impl<'a> Reader<'a> {
     /// Takes a word. `Missing` if none is left.
     pub(crate) fn need(&mut self, wanted: &'static str) -> Result<&'a [u8], QuestionFault>
         ensures word { IfOk result (λ w. word_then self.old ≡ Some (w.now, self.new)) }
-        ensures told { IfErr result (Refuses (word_then self.old)) }
+        ensures error { IfErr result (Refuses (word_then self.old)) }
         ensures shorter { OnOk result (length self.new < length self.old) }
     {
         match self.next() {
@@ -79,8 +79,8 @@ impl<'a> Reader<'a> {
         alloc: Global,
         wanted: &'static str,
     ) -> Result<(), QuestionFault>
-        ensures ok { OnOk result (behind wanted.now self.old ≡ Some self.new) }
-        ensures told { IfErr result (Refuses (behind wanted.now self.old)) }
+        ensures ok { OnOk result (after_word wanted.now self.old ≡ Some self.new) }
+        ensures error { IfErr result (Refuses (after_word wanted.now self.old)) }
         ensures shorter { OnOk result (length self.new < length self.old) }
     {
         let word = self.need(wanted)?;
@@ -96,7 +96,7 @@ impl<'a> Reader<'a> {
     /// Fails with `TooMany` if a word is left.
     pub(crate) fn end(&mut self, alloc: Global) -> Result<(), QuestionFault>
         ensures ok { OnOk result (end_of self.old ≡ Some tt) }
-        ensures told { IfErr result (Refuses (end_of self.old)) }
+        ensures error { IfErr result (Refuses (end_of self.old)) }
     {
         match self.next() {
             None => Ok(()),

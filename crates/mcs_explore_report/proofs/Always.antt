@@ -3,18 +3,18 @@
 use Rattle.std.specs.Prelude.{ℕ, ◌≡◌, ◌<◌, ◌+◌, ◌⊎◌, false, List, Option, Some, None, length, slice_get}
 use Rattle.std.proofs.Common.{ap, sym, ◌∙◌, inl, inr, arith}
 use Rattle.mcs_explore_questions.specs.declared.asking.Event.{Event}
-use Rattle.mcs_explore_report.specs.declared.answers.Told.{Told}
+use Rattle.mcs_explore_report.specs.declared.answers.Witness.{Witness}
 use Rattle.mcs_explore_report.specs.declared.judging.Sighting.{Sighting}
 use Rattle.mcs_explore_report.specs.Ends.{Kind}
 use Rattle.mcs_explore_report.specs.Verdicts.{HasEach, IsAlways, IsEndSearched, IsFoundIn, IsNotIn, lacks}
 use Rattle.mcs_explore_report.proofs.Lists.{same-or-not, some-same}
 
-pub answer_always : (told : List Told) (pattern : List ℕ) (kinds : List Kind) (e : Event) (seen : Sighting) → IsFoundIn told pattern false seen → IsAlways told pattern kinds e (Some seen)
-answer_always told pattern kinds e seen found = inl found
+pub answer_always : (witnesses : List Witness) (pattern : List ℕ) (kinds : List Kind) (e : Event) (seen : Sighting) → IsFoundIn witnesses pattern false seen → IsAlways witnesses pattern kinds e (Some seen)
+answer_always witnesses pattern kinds e seen found = inl found
 
-pub ends_always : (told : List Told) (pattern : List ℕ) (kinds : List Kind) (e : Event) (o : Option Sighting) → IsNotIn told pattern false (length told) → IsEndSearched kinds e o → IsAlways told pattern kinds e o
-ends_always told pattern kinds e None none each = (none, each)
-ends_always told pattern kinds e (Some seen) none without = inr without
+pub ends_always : (witnesses : List Witness) (pattern : List ℕ) (kinds : List Kind) (e : Event) (o : Option Sighting) → IsNotIn witnesses pattern false (length witnesses) → IsEndSearched kinds e o → IsAlways witnesses pattern kinds e o
+ends_always witnesses pattern kinds e None none each = (none, each)
+ends_always witnesses pattern kinds e (Some seen) none without = inr without
 
 -- one kind of ends more that comes with an answer
 pub each_more : (kinds : List Kind) (e : Event) (n : ℕ) (k : Kind) → slice_get kinds n ≡ Some k → lacks e k.standing ≡ false → HasEach kinds e n → HasEach kinds e (n + 1)

@@ -79,8 +79,7 @@ decimal-one : (n : ℕ) → words_of (109 ∷ decimal n) ≡ (109 ∷ decimal n)
 unfolding digits
 decimal-one n = words-whole (109 ∷ decimal n) (refl, onto-digits 64 n [] tt)
 
--- no name of a message is among the words: then they stand for lists that differ in such a name
--- alike
+-- no name of a message is among the words: then they match lists that differ in such a name alike
 stands : (ws us vs : List (List ℕ)) (m n : ℕ) → NameNone ws → are_matched ws (us ++ (109 ∷ decimal m) ∷ vs) ≡ are_matched ws (us ++ (109 ∷ decimal n) ∷ vs)
 stands [] [] vs m n h = refl
 stands [] (u ∷ us) vs m n h = refl
@@ -89,7 +88,7 @@ stands (w ∷ ws) (u ∷ us) vs m n h = ap (λ b. is_rest w || (is_word w u && b
 
 -- a line in which the name of a message is after a text
 abbrev named : List ℕ → ℕ → List ℕ → List ℕ
-named before n behind = before ++ 32 ∷ 109 ∷ (decimal n ++ behind)
+named before n following = before ++ 32 ∷ 109 ∷ (decimal n ++ following)
 
 -- the words of such a line
 named-end : (before : List ℕ) (n : ℕ) → words_of (named before n []) ≡ words_of before ++ (109 ∷ decimal n) ∷ []
@@ -98,7 +97,7 @@ named-end before n = parts-words before (109 ∷ (decimal n ++ [])) ∙ ap (λ (
 named-more : (before rest : List ℕ) (n : ℕ) → words_of (named before n (32 ∷ rest)) ≡ words_of before ++ (109 ∷ decimal n) ∷ words_of rest
 named-more before rest n = parts-words before (109 ∷ (decimal n ++ 32 ∷ rest)) ∙ ap (λ l. words_of before ++ l) (parts-words (109 ∷ decimal n) rest ∙ ap (λ l. l ++ words_of rest) (decimal-one n))
 
--- a pattern that names no message stands for such lines alike
+-- a pattern that names no message matches such lines alike
 named-blind : (p before rest : List ℕ) (m n : ℕ) → NameNone (words_of p) → is_match p (named before m (32 ∷ rest)) ≡ is_match p (named before n (32 ∷ rest))
 named-blind p before rest m n h = ap (are_matched (words_of p)) (named-more before rest m) ∙ stands (words_of p) (words_of before) (words_of rest) m n h ∙ ap (are_matched (words_of p)) (sym (named-more before rest n))
 

@@ -1,4 +1,4 @@
--- Lines that a pattern stands for, and how many messages were sent before them.
+-- Lines that a pattern matches, and how many messages were sent before them.
 use Rattle.std.specs.Prelude.{ℕ, ◌≡◌, ◌+◌, ◌-◌, ◌==◌, ◌++◌, Bool, true, false, cond, List, [], ◌∷◌, Some, None, drop, length, reverse, slice_get}
 use Rattle.std.specs.List.{list_any}
 use Rattle.std.proofs.Common.{refl, ap, sym, ◌∙◌, arith}
@@ -14,7 +14,7 @@ use Rattle.mcs_book.specs.Messages.{next_message}
 use Rattle.mcs_text.specs.Table.{record_text}
 use Rattle.mcs_sim.specs.Trace.{sent_after, sent_with}
 use Rattle.mcs_lab_check.proofs.Finding.{from-there}
-use Rattle.mcs_explore_report.specs.Judging.{lines_told, record_lines, told_by, told_last}
+use Rattle.mcs_explore_report.specs.Judging.{line_texts, record_lines, newest_texts, last_texts}
 use Rattle.mcs_explore_walk.proofs.LastLine.{newest-is}
 
 -- a record whose line is wanted, and one whose line is not
@@ -54,13 +54,13 @@ before-line : (l : Line) (R : Log) → next_message (onto l.records R) - sent_af
 before-line l R = let a = sent-onto l.records R in let b = sent-from (next_message R) l.records in omega (arith, a, b)
 
 -- the lines that a trace has of the newest line
-pub told-some : (p : List ℕ → Bool) (b : Book) (l : Line) (n : ℕ) → line_of_number b (length b.lines) ≡ Some l → n ≡ next_message (log_of b) - sent_after 0 l.records → list_any p (lines_told n l) ≡ list_any p (told_last b)
-told-some p b l n at sent = go b.lines refl
+pub texts-some : (p : List ℕ → Bool) (b : Book) (l : Line) (n : ℕ) → line_of_number b (length b.lines) ≡ Some l → n ≡ next_message (log_of b) - sent_after 0 l.records → list_any p (line_texts n l) ≡ list_any p (last_texts b)
+texts-some p b l n at sent = go b.lines refl
   where
     B : Log
     B = boot_log b.boot.lines
 
-    go : (ls : List Line) → b.lines ≡ ls → list_any p (lines_told n l) ≡ list_any p (told_by B b.lines)
+    go : (ls : List Line) → b.lines ≡ ls → list_any p (line_texts n l) ≡ list_any p (newest_texts B b.lines)
     go [] none = absurd (nothing none)
       where
         nothing : b.lines ≡ [] → ⊥
@@ -68,4 +68,4 @@ told-some p b l n at sent = go b.lines refl
     go (k ∷ ls) is =
         let same : k ≡ l = newest-is b l k ls is at in
         let count : n ≡ next_message (past B ls) = sent ∙ ap (λ (ks : List Line). next_message (past B ks) - sent_after 0 l.records) is ∙ ap (λ (x : Line). next_message (onto k.records (past B ls)) - sent_after 0 x.records) (sym same) ∙ before-line k (past B ls) in
-        ap (λ m. list_any p (lines_told m l)) count ∙ ap (λ (x : Line). list_any p (lines_told (next_message (past B ls)) x)) (sym same) ∙ ap (λ (ks : List Line). list_any p (told_by B ks)) (sym is)
+        ap (λ m. list_any p (line_texts m l)) count ∙ ap (λ (x : Line). list_any p (line_texts (next_message (past B ls)) x)) (sym same) ∙ ap (λ (ks : List Line). list_any p (newest_texts B ks)) (sym is)

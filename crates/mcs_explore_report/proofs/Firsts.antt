@@ -7,7 +7,7 @@ use Rattle.mcs_turns.specs.declared.position.Pick.{Pick}
 use Rattle.mcs_turns.specs.Turns.{User, Going}
 use Rattle.mcs_explore_walk.specs.declared.walk.Turn.{Turn}
 use Rattle.mcs_explore_orders.specs.Shown.{Made, Shown, Sight, with_state, with_turn}
-use Rattle.mcs_explore_report.specs.declared.answers.Told.{Told}
+use Rattle.mcs_explore_report.specs.declared.answers.Witness.{Witness}
 use Rattle.mcs_turns.specs.declared.reached.Reached.{Reached}
 use Rattle.mcs_explore_script.specs.declared.questions.AskedLine.{AskedLine}
 use Rattle.mcs_explore_report.specs.declared.judging.Sighting.{Sighting}
@@ -28,7 +28,7 @@ state-more states more place j b = record { number = b.number; sight = b.sight; 
 turn-more : (turns more : List Made) (place j : ℕ) → IsTurnBefore turns place j → IsTurnBefore (turns ++ more) place j
 turn-more turns more place j b = record { number = b.number; made = b.made; at = at-old turns more b.number b.made b.at; there = b.there; before = b.before }
 
--- what was shown before stands before what is shown last
+-- what was shown before has a place before what is shown last
 state-last : (states : List Sight) (s : Sight) (place number j : ℕ) (x : Sight) → slice_get states number ≡ Some x → x.place ≡ place → j ≡ length states → IsStateBefore (states ++ s ∷ []) place j
 state-last states s place number j x at is last = let lt = at-within states number x at in record { number = number; sight = x; at = at-old states (s ∷ []) number x at; there = is; before = omega (arith, lt, last) }
 
@@ -88,12 +88,12 @@ module _ (users : List User) (states : List Sight) (old new : List Kind) (place 
 -- answers: what is in a table after a turn was there before it, or is new there and of the place of
 -- the turn
 
-abbrev IsOldOrNew : List Told → ℕ → Told → Type 0
+abbrev IsOldOrNew : List Witness → ℕ → Witness → Type 0
 IsOldOrNew before place x = ((i : ℕ) × (slice_get before i ≡ Some x)) ⊎ ((x.place ≡ place) × (IsAmong before x.answer → ⊥))
 
 abbrev Comes : Tables → Tables → ℕ → Type 0
-Comes old new place = (a b : ℕ) (after : List Told) → table_of new a b ≡ Some after
-    → (before : List Told) × ((table_of old a b ≡ Some before) × ((i : ℕ) (x : Told) → slice_get after i ≡ Some x → IsOldOrNew before place x))
+Comes old new place = (a b : ℕ) (after : List Witness) → table_of new a b ≡ Some after
+    → (before : List Witness) × ((table_of old a b ≡ Some before) × ((i : ℕ) (x : Witness) → slice_get after i ≡ Some x → IsOldOrNew before place x))
 
 same-comes : (old new : Tables) (place : ℕ) → new ≡ old → Comes old new place
 same-comes old new place same = λ a b after at. (after, (ap (λ (ts : Tables). table_of ts a b) (sym same) ∙ at, λ i x there. inl (i, there)))
@@ -104,31 +104,31 @@ comes-on old mid new place grows first then = λ a b after at.
     let o = first a b m.0 m.1.0 in
     (o.0, (o.1.0, λ i x there. go a b m.0 o.0 m.1.0 o.1.0 o.1.1 x (m.1.1 i x there)))
   where
-    go : (a b : ℕ) (middle before : List Told) → table_of mid a b ≡ Some middle → table_of old a b ≡ Some before → ((i : ℕ) (x : Told) → slice_get middle i ≡ Some x → IsOldOrNew before place x) → (x : Told) → IsOldOrNew middle place x → IsOldOrNew before place x
+    go : (a b : ℕ) (middle before : List Witness) → table_of mid a b ≡ Some middle → table_of old a b ≡ Some before → ((i : ℕ) (x : Witness) → slice_get middle i ≡ Some x → IsOldOrNew before place x) → (x : Witness) → IsOldOrNew middle place x → IsOldOrNew before place x
     go a b middle before in_mid in_old was x (inl h) = was h.0 x h.1
     go a b middle before in_mid in_old was x (inr n) =
-        inr (n.0, λ among. n.1 (grows a b middle x.answer in_mid (λ told at. subst (λ ts. IsAmong ts x.answer) (some-same before told (sym in_old ∙ at)) among)))
+        inr (n.0, λ among. n.1 (grows a b middle x.answer in_mid (λ witnesses at. subst (λ ts. IsAmong ts x.answer) (some-same before witnesses (sym in_old ∙ at)) among)))
 
-noted-comes : (user number : ℕ) (t : Told) (old new : Tables) → IsNotedOf user number t old new → Comes old new t.place
+noted-comes : (user number : ℕ) (t : Witness) (old new : Tables) → IsNotedOf user number t old new → Comes old new t.place
 noted-comes user number t old new noted = λ a b after at. let w = table-was user number t old new noted a b after at in (w.before, (w.at, λ i x there. go w.before after w.is i x there))
   where
-    added : (before after : List Told) → IsNoted t before after → (i : ℕ) (x : Told) → slice_get after i ≡ Some x → IsOldOrNew before t.place x
-    added before after (inl same) i x there = inl (i, ap (λ (ts : List Told). slice_get ts i) (sym same.1) ∙ there)
-    added before after (inr new_one) i x there = side (at-split before t i x (ap (λ (ts : List Told). slice_get ts i) (sym new_one.added) ∙ there))
+    added : (before after : List Witness) → IsNoted t before after → (i : ℕ) (x : Witness) → slice_get after i ≡ Some x → IsOldOrNew before t.place x
+    added before after (inl same) i x there = inl (i, ap (λ (ts : List Witness). slice_get ts i) (sym same.1) ∙ there)
+    added before after (inr new_one) i x there = side (at-split before t i x (ap (λ (ts : List Witness). slice_get ts i) (sym new_one.added) ∙ there))
       where
         side : (slice_get before i ≡ Some x) ⊎ ((i ≡ length before) × (x ≡ t)) → IsOldOrNew before t.place x
         side (inl h) = inl (i, h)
-        side (inr e) = inr (ap (λ (y : Told). y.place) e.1, λ among. new_one.none (subst (λ (y : Told). IsAmong before y.answer) e.1 among))
+        side (inr e) = inr (ap (λ (y : Witness). y.place) e.1, λ among. new_one.none (subst (λ (y : Witness). IsAmong before y.answer) e.1 among))
 
-    go : {a b : ℕ} (before after : List Told) → ((a ≡ user) × (b ≡ number) × IsNoted t before after) ⊎ (((a ≡ user) × (b ≡ number) → ⊥) × (after ≡ before)) → (i : ℕ) (x : Told) → slice_get after i ≡ Some x → IsOldOrNew before t.place x
+    go : {a b : ℕ} (before after : List Witness) → ((a ≡ user) × (b ≡ number) × IsNoted t before after) ⊎ (((a ≡ user) × (b ≡ number) → ⊥) × (after ≡ before)) → (i : ℕ) (x : Witness) → slice_get after i ≡ Some x → IsOldOrNew before t.place x
     go before after (inl mine) i x there = added before after mine.2 i x there
-    go before after (inr other) i x there = inl (i, ap (λ (ts : List Told). slice_get ts i) (sym other.1) ∙ there)
+    go before after (inr other) i x there = inl (i, ap (λ (ts : List Witness). slice_get ts i) (sym other.1) ∙ there)
 
-turn-comes : (t : Told) (old new : Tables) → IsNotedTurn t old new → Comes old new t.place
+turn-comes : (t : Witness) (old new : Tables) → IsNotedTurn t old new → Comes old new t.place
 turn-comes t old new (inl waits) = same-comes old new t.place waits.1
 turn-comes t old new (inr noted) = noted-comes t.turn.pick.user t.turn.pick.number t old new noted
 
-for-comes : (o : Option Pick) (t : Told) (old new : Tables) → IsNotedFor o t old new → Comes old new t.place
+for-comes : (o : Option Pick) (t : Witness) (old new : Tables) → IsNotedFor o t old new → Comes old new t.place
 for-comes None t old new same = same-comes old new t.place same
 for-comes (Some e) t old new noted = noted-comes e.user e.number t old new noted
 
@@ -145,16 +145,16 @@ module _ (users : List User) (turns : List Made) (m : Made) (old mid new : Table
       (mail-comes users m.from m.place m.turn (brought m.going.book) mid new mail)
 
   -- what a turn gave that was shown before was kept
-  was-kept : (a b j : ℕ) (before : List Told) (n : Made) (x : Answer) → table_of old a b ≡ Some before → slice_get turns j ≡ Some n → HasGiven users n a b x → IsAmong before x
+  was-kept : (a b j : ℕ) (before : List Witness) (n : Made) (x : Answer) → table_of old a b ≡ Some before → slice_get turns j ≡ Some n → HasGiven users n a b x → IsAmong before x
   was-kept a b j before n x at there (inl given) =
       let o = given.0 in
       subst (λ y. IsAmong before y) o.answer (are.all j n before there (λ waits. given.1 (sym o.answer ∙ waits)) (ap (λ u. table_of old u n.turn.pick.number) o.user ∙ ap (λ k. table_of old a k) o.number ∙ at))
   was-kept a b j before n x at there (inr mailed) = are_mail j n a b x before there mailed at
 
   pub answers-first : AreFirstAnswers users (turns ++ m ∷ []) new
-  answers-first = λ a b i j told t n at there shown gave. let c = comes a b told at in go a b j c.0 t n c.1.0 gave (at-split turns m j n shown) (c.1.1 i t there)
+  answers-first = λ a b i j witnesses t n at there shown gave. let c = comes a b witnesses at in go a b j c.0 t n c.1.0 gave (at-split turns m j n shown) (c.1.1 i t there)
     where
-      go : (a b j : ℕ) (before : List Told) (t : Told) (n : Made) → table_of old a b ≡ Some before → HasGiven users n a b t.answer → (slice_get turns j ≡ Some n) ⊎ ((j ≡ length turns) × (n ≡ m)) → IsOldOrNew before m.place t → IsTurnBefore (turns ++ m ∷ []) t.place j
+      go : (a b j : ℕ) (before : List Witness) (t : Witness) (n : Made) → table_of old a b ≡ Some before → HasGiven users n a b t.answer → (slice_get turns j ≡ Some n) ⊎ ((j ≡ length turns) × (n ≡ m)) → IsOldOrNew before m.place t → IsTurnBefore (turns ++ m ∷ []) t.place j
       go a b j before t n at gave (inl h) (inl was) = turn-more turns (m ∷ []) t.place j (first a b was.0 j before t n at was.1 h gave)
       go a b j before t n at gave (inr e) (inl was) = let x = are.each a b before was.0 t at was.1 in turn-last turns m t.place x.index j x.made x.at x.place e.0
       go a b j before t n at gave (inl h) (inr is_new) = absurd (is_new.1 (was-kept a b j before n t.answer at h gave))

@@ -33,7 +33,7 @@ use Rattle.mcs_explore_questions.specs.declared.asking.Event.{Event}
 use Rattle.mcs_explore_questions.specs.declared.asking.Span.{Span}
 use Rattle.mcs_explore_script.specs.declared.questions.AskedLine.{AskedLine}
 use Rattle.mcs_explore_report.specs.declared.judging.Sighting.{Sighting}
-use Rattle.mcs_explore_report.specs.Judging.{IsDecided, NameNone, answered_by, fails, gives, has_given, is_in, is_line, is_within, lines_told, record_lines, told_last}
+use Rattle.mcs_explore_report.specs.Judging.{IsDecided, NameNone, answered_by, fails, gives, has_given, is_in, is_line, is_within, line_texts, record_lines, last_texts}
 use Rattle.mcs_explore_script.specs.UserLists.{user_of}
 use Rattle.mcs_explore_report.proofs.Blinds.{lines-blind}
 use Rattle.mcs_explore_report.specs.Found.{AreHeldInRuns, AreJudgedFound, IsHeldFound, IsHeldInRuns}
@@ -89,7 +89,7 @@ module _ (users : List User) (g h : Going) (places : g.places ≡ h.places) (sta
 given-same : (users : List User) (g h : Going) → g.places ≡ h.places → (e : Event) → has_given users g e ≡ has_given users h e
 given-same users g h places e = ap (λ (ps : List Position). has_given users (record g { places = ps }) e) places
 
--- alike runs: the same turn leads from both to what tells the same
+-- alike runs: the same turn leads from both to what is reported the same
 module _ (numbered : Bool) (users : List User) (boot : Boot) (whole : IsFaultless boot) (range : AreInRange users) (g h : Going) (a : AreAlike numbered users boot g h) (core : CoreId) (k : Pick) (t : Going) (turn : IsTurn users core k g t) where
   abbrev pub step : Step
   step = record { core = core; thread = turn.user.thread; entry = given g turn.user k turn.entry }
@@ -109,24 +109,24 @@ module _ (numbered : Bool) (users : List User) (boot : Boot) (whole : IsFaultles
   pub places-same : then_g.places ≡ then_h.places
   places-same = places_after numbered users boot whole range g h a core k t turn
 
-  -- a pattern that names no message stands for the lines of both
-  blind : (pattern : List ℕ) → NameNone (words_of pattern) → list_any (is_line pattern) (told_last then_g.book) ≡ list_any (is_line pattern) (told_last then_h.book)
+  -- a pattern that names no message matches the lines of both
+  blind : (pattern : List ℕ) → NameNone (words_of pattern) → list_any (is_line pattern) (last_texts then_g.book) ≡ list_any (is_line pattern) (last_texts then_h.book)
   blind pattern none =
       ap (λ (x : Answer). is_line pattern (answer_text x) || list_any (is_line pattern) (record_lines (next_message (log_of g.book)) (outcome g.book step).records)) same.answer
       ∙ ap (λ b. is_line pattern (answer_text (outcome h.book step).answer) || b) (lines-blind pattern none (outcome g.book step).records (outcome h.book step).records (next_message (log_of g.book)) (next_message (log_of h.book)) same.records)
 
 -- where numbers are distinguished, each pattern does
-told-same : (users : List User) (boot : Boot) (whole : IsFaultless boot) (range : AreInRange users) (g h : Going) (a : AreAlike true users boot g h) (core : CoreId) (k : Pick) (t : Going) (turn : IsTurn users core k g t)
-    → told_last (then_g true users boot whole range g h a core k t turn).book ≡ told_last (then_h true users boot whole range g h a core k t turn).book
-told-same users boot whole range g h a core k t turn =
-    ap (λ n. lines_told n (line_for s (outcome g.book s))) a.close.logs.sent ∙ ap (λ (o : Outcome). lines_told (next_message (log_of h.book)) (line_for s o)) (exact-outcomes users boot whole range g h a core k t turn)
+texts-same : (users : List User) (boot : Boot) (whole : IsFaultless boot) (range : AreInRange users) (g h : Going) (a : AreAlike true users boot g h) (core : CoreId) (k : Pick) (t : Going) (turn : IsTurn users core k g t)
+    → last_texts (then_g true users boot whole range g h a core k t turn).book ≡ last_texts (then_h true users boot whole range g h a core k t turn).book
+texts-same users boot whole range g h a core k t turn =
+    ap (λ n. line_texts n (line_for s (outcome g.book s))) a.close.logs.sent ∙ ap (λ (o : Outcome). line_texts (next_message (log_of h.book)) (line_for s o)) (exact-outcomes users boot whole range g h a core k t turn)
   where
     s : Step
     s = step true users boot whole range g h a core k t turn
 
 pub turn-same : (numbered : Bool) (users : List User) (boot : Boot) (whole : IsFaultless boot) (range : AreInRange users) (g h : Going) (a : AreAlike numbered users boot g h) (core : CoreId) (k : Pick) (t : Going) (turn : IsTurn users core k g t)
     → (q : Asked) → IsDecided numbered q → (u : Turn) → fails users q (Some u) (then_g numbered users boot whole range g h a core k t turn) ≡ fails users q (Some u) (then_h numbered users boot whole range g h a core k t turn)
-turn-same true users boot whole range g h a core k t turn (asked.Never pattern) d u = ap (λ ls. list_any (is_line pattern.items) ls) (told-same users boot whole range g h a core k t turn)
+turn-same true users boot whole range g h a core k t turn (asked.Never pattern) d u = ap (λ ls. list_any (is_line pattern.items) ls) (texts-same users boot whole range g h a core k t turn)
 turn-same false users boot whole range g h a core k t turn (asked.Never pattern) d u = blind false users boot whole range g h a core k t turn pattern.items d
 turn-same numbered users boot whole range g h a core k t turn (asked.Before first second) d u =
     ap (λ b. gives users u second && not b) (given-same users (then_g numbered users boot whole range g h a core k t turn) (then_h numbered users boot whole range g h a core k t turn) (places-same numbered users boot whole range g h a core k t turn) first)

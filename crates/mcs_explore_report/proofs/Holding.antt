@@ -20,7 +20,7 @@ use Rattle.mcs_explore_script.specs.declared.questions.AskedLine.{AskedLine}
 use Rattle.mcs_explore_script.specs.declared.lives.Live.{Live}
 use Rattle.mcs_explore_script.specs.declared.script.UserScript.{UserScript}
 use Rattle.mcs_explore_script.specs.UserLists.{user_of}
-use Rattle.mcs_explore_report.specs.declared.answers.Told.{Told}
+use Rattle.mcs_explore_report.specs.declared.answers.Witness.{Witness}
 use Rattle.mcs_explore_report.specs.declared.judging.Sighting.{Sighting}
 use Rattle.mcs_explore_report.specs.declared.verdicts.Verdict.{Verdict}
 use Rattle.mcs_explore_report.specs.Answers.{Tables, table_of}
@@ -69,7 +69,7 @@ ends-among users boot kept ends in_runs has = λ n g run over.
     (there.0, record { kind = there.1.kind; at = there.1.at; same = there.1.same ∙ end.1.same })
 
 -- where none of the users that may not get stuck has a first place, none does
-pub all-live : {K : Type 0} (users : List User) (boot : Boot) (lives : List Live) (found : Entries K Turn) (edges : List Edge) (notes : List Noted) (places : List (Option ℕ)) → AreDecided users boot lives found edges notes
+pub all-live : {K : Type 0} (users : List User) (boot : Boot) (lives : List Live) (found : Entries K Turn) (edges : List (Edge Turn)) (notes : List Noted) (places : List (Option ℕ)) → AreDecided users boot lives found edges notes
     → AreFirstPlaces edges (length found) notes (length lives) places → list_all is_none places ≡ true → (i n : ℕ) (l : Live) (g : Going) → slice_get lives i ≡ Some l → IsRun users boot n g → IsLive users l g
 all-live users boot lives found edges notes places decided first all i n l g at run =
     let within = at-within lives i l at in
@@ -83,11 +83,11 @@ all-live users boot lives found edges notes places decided first all i n l g at 
 
 -- the answers that are kept of an entry
 module _ (users : List User) (tables : Tables) where
-  pub kept-of : (e : Event) (user : ℕ) (told : List Told) → user_of users e.thread ≡ Some user → table_of tables user (e.number - 1) ≡ Some told → answers_of users tables e ≡ told
-  kept-of e user told of at = by (user_of users e.thread) (table_of tables user (e.number - 1)) of at
+  pub kept-of : (e : Event) (user : ℕ) (witnesses : List Witness) → user_of users e.thread ≡ Some user → table_of tables user (e.number - 1) ≡ Some witnesses → answers_of users tables e ≡ witnesses
+  kept-of e user witnesses of at = by (user_of users e.thread) (table_of tables user (e.number - 1)) of at
     where
-      by : (o : Option ℕ) (t : Option (List Told)) → o ≡ Some user → t ≡ Some told → elim o [ None ↦ [] | Some i ↦ unwrap_or (table_of tables i (e.number - 1)) [] ] ≡ told
-      by o t is there = ap (λ (p : Option ℕ). elim p [ None ↦ [] | Some i ↦ unwrap_or (table_of tables i (e.number - 1)) [] ]) is ∙ ap (λ (p : Option (List Told)). unwrap_or p []) at
+      by : (o : Option ℕ) (t : Option (List Witness)) → o ≡ Some user → t ≡ Some witnesses → elim o [ None ↦ [] | Some i ↦ unwrap_or (table_of tables i (e.number - 1)) [] ] ≡ witnesses
+      by o t is there = ap (λ (p : Option ℕ). elim p [ None ↦ [] | Some i ↦ unwrap_or (table_of tables i (e.number - 1)) [] ]) is ∙ ap (λ (p : Option (List Witness)). unwrap_or p []) at
 
 -- each answer is kept
 module _ (users : List User) (boot : Boot) (tables : Tables) (in_runs : AreAnswersInRuns users boot tables) where
@@ -100,8 +100,8 @@ module _ (users : List User) (boot : Boot) (tables : Tables) (in_runs : AreAnswe
   pub all-said : (e : Event) (pattern : List ℕ) (wanted : Bool) → IsNotIn (answers_of users tables e) pattern (not wanted) (length (answers_of users tables e)) → AllAnswersAre users boot e pattern wanted
   all-said e pattern wanted none = λ user n t g h a of run turn given.
       let k = kept user (e.number - 1) n t g h a run turn given in
-      let same : answers_of users tables e ≡ k.told = kept-of users tables e user k.told of k.at in
-      let there : slice_get (answers_of users tables e) k.among.place ≡ Some k.among.one = ap (λ (ts : List Told). slice_get ts k.among.place) same ∙ k.among.at in
+      let same : answers_of users tables e ≡ k.witnesses = kept-of users tables e user k.witnesses of k.at in
+      let there : slice_get (answers_of users tables e) k.among.place ≡ Some k.among.one = ap (λ (ts : List Witness). slice_get ts k.among.place) same ∙ k.among.at in
       ap (is_said pattern) (sym k.among.same) ∙ is-or (is_said pattern k.among.one.answer) wanted (none k.among.place k.among.one (at-within (answers_of users tables e) k.among.place k.among.one there) there)
 
 -- an answer that is kept came in some run
@@ -109,13 +109,13 @@ module _ {K : Type 0} (users : List User) (boot : Boot) (found : Entries K Turn)
   pub said-once : (e : Event) (pattern : List ℕ) (wanted : Bool) (seen : Sighting) → IsFoundIn (answers_of users tables e) pattern wanted seen → SomeAnswerIs users boot e pattern wanted
   said-once e pattern wanted seen it = by (user_of users e.thread) refl
     where
-      none : Option (List Told) → List Told
+      none : Option (List Witness) → List Witness
       none o = unwrap_or o []
 
-      at-user : (user : ℕ) → user_of users e.thread ≡ Some user → (o : Option (List Told)) → table_of tables user (e.number - 1) ≡ o → slice_get (none o) it.index ≡ Some it.one → SomeAnswerIs users boot e pattern wanted
+      at-user : (user : ℕ) → user_of users e.thread ≡ Some user → (o : Option (List Witness)) → table_of tables user (e.number - 1) ≡ o → slice_get (none o) it.index ≡ Some it.one → SomeAnswerIs users boot e pattern wanted
       at-user user of None is at = absurd cc
-      at-user user of (Some told) is at =
-          let a = answers.each user (e.number - 1) told it.index it.one is at in
+      at-user user of (Some witnesses) is at =
+          let a = answers.each user (e.number - 1) witnesses it.index it.one is at in
           record {
             user = user;
             of = of;
@@ -133,11 +133,11 @@ module _ {K : Type 0} (users : List User) (boot : Boot) (found : Entries K Turn)
       by : (o : Option ℕ) → user_of users e.thread ≡ o → SomeAnswerIs users boot e pattern wanted
       by None is =
           let empty : answers_of users tables e ≡ [] = ap (λ (p : Option ℕ). elim p [ None ↦ [] | Some i ↦ unwrap_or (table_of tables i (e.number - 1)) [] ]) is in
-          let at : slice_get [] it.index ≡ Some it.one = sym (ap (λ (ts : List Told). slice_get ts it.index) empty) ∙ it.at in
+          let at : slice_get [] it.index ≡ Some it.one = sym (ap (λ (ts : List Witness). slice_get ts it.index) empty) ∙ it.at in
           absurd cc
       by (Some user) is =
           let same : answers_of users tables e ≡ none (table_of tables user (e.number - 1)) = ap (λ (p : Option ℕ). elim p [ None ↦ [] | Some i ↦ unwrap_or (table_of tables i (e.number - 1)) [] ]) is in
-          at-user user is (table_of tables user (e.number - 1)) refl (sym (ap (λ (ts : List Told). slice_get ts it.index) same) ∙ it.at)
+          at-user user is (table_of tables user (e.number - 1)) refl (sym (ap (λ (ts : List Witness). slice_get ts it.index) same) ∙ it.at)
 
 module _ {K : Type 0} (users : List User) (boot : Boot) (found : Entries K Turn) (done : ℕ) (kinds : List Kind) (tables : Tables) (ends : AreEndsInRuns users boot kinds) (answers : AreAnswersFound users boot found done tables)
     (in_runs : AreAnswersInRuns users boot tables) where
@@ -196,7 +196,7 @@ failed-none failed i within none =
 
 -- a script holds where a whole search shows no failure, no end with a user that may not wait there
 -- for ever, and no user that gets stuck
-pub holding : {K : Type 0} (s : UserScript) (found : Entries K Turn) (done : ℕ) (edges : List Edge) (notes : List Noted) (places : List (Option ℕ)) (ends : List Kind) (tables : Tables) (failed : List (Option Sighting))
+pub holding : {K : Type 0} (s : UserScript) (found : Entries K Turn) (done : ℕ) (edges : List (Edge Turn)) (notes : List Noted) (places : List (Option ℕ)) (ends : List Kind) (tables : Tables) (failed : List (Option Sighting))
     → AreEndsInRuns s.users s.boot ends → AreAnswersFound s.users s.boot found done tables → AreAnswersInRuns s.users s.boot tables → AreHeldInRuns s.users s.boot s.asked.items failed → length failed ≡ length s.asked.items
     → AreDecided s.users s.boot s.lives.items found edges notes → AreFirstPlaces edges (length found) notes (length s.lives.items) places
     → list_all (λ (k : Kind). are_idle s.asked.items k.standing) ends ≡ true → list_all is_none places ≡ true → AreHeldBelow s.users ends tables failed s.asked.items (length s.asked.items) → IsHolding s

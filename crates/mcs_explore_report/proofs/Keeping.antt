@@ -14,7 +14,7 @@ use Rattle.mcs_explore_walk.specs.Walks.{last_answer}
 use Rattle.mcs_explore_orders.specs.Trails.{Leads}
 use Rattle.mcs_explore_orders.specs.Shown.{AreShown, Counting, HasCounted, HasSeenAll, Made, Shown, Sight, nothing, with_state, with_turn, IsTurnOf}
 use Rattle.mcs_explore_orders.proofs.Paths.{path-one}
-use Rattle.mcs_explore_report.specs.declared.answers.Told.{Told}
+use Rattle.mcs_explore_report.specs.declared.answers.Witness.{Witness}
 use Rattle.mcs_explore_questions.specs.declared.asking.Asked.{Asked}
 use Rattle.mcs_explore_questions.specs.declared.asking.Asked.TheVariants as asked
 use Rattle.mcs_explore_script.specs.declared.questions.AskedLine.{AskedLine}
@@ -33,7 +33,7 @@ use Rattle.mcs_explore_report.proofs.Lists.{at-last, at-old, at-split, within-at
 use Rattle.mcs_explore_report.proofs.Firsts.{answers-first, ends-first, state-failures, turn-failures}
 use Rattle.mcs_explore_report.proofs.Judgments.{judged-more, none-judged, state-look, turn-look}
 use Rattle.mcs_explore_report.proofs.Noting.{no-ends, state-noted}
-use Rattle.mcs_explore_report.proofs.Telling.{mail-more, mail-told, no-mail, no-turns, turn-noted}
+use Rattle.mcs_explore_report.proofs.Telling.{mail-more, mail-noted, no-mail, no-turns, turn-noted}
 
 -- a state more
 pub kept-state : {E : Type 0} (r : Result (Unit {0}) E) (users : List User) (questions : List AskedLine) (place : ℕ) (g : Going) (over : Bool) (old new : List Kind) (tables : Tables) (failed after : List (Option Sighting))
@@ -64,7 +64,7 @@ kept-turn (Ok x) users questions place t a from h kinds start mid after failed t
     let own = turn-noted users shown.turns start mid m noted kept.answers in
     record {
       ends = kept.ends;
-      answers = mail-told users (shown.turns ++ m ∷ []) (length shown.turns) m (at-last shown.turns m) (brought h.book) mid after (λ i r there. (i, there)) mail own;
+      answers = mail-noted users (shown.turns ++ m ∷ []) (length shown.turns) m (at-last shown.turns m) (brought h.book) mid after (λ i r there. (i, there)) mail own;
       mail = mail-more users shown.turns m start mid after noted mail kept.mail;
       judged = judged-more users questions (record { place = place; turn = Some t }) h shown (with_turn place t a from h shown) (turn-look users place t a from h shown) failed then by kept.judged;
       first = record {
@@ -117,7 +117,7 @@ made-from users boot found done place g m lt at here is =
     let path : is.path ≡ path_of found place = some-same is.path (path_of found place) (sym is.at ∙ ap (λ (k : ℕ). slice_get (paths_below found done) k) here ∙ at-paths found done place lt) in
     is.turn.from ∙ ap (λ (x : Going). x.places) (path-one users (beginning users boot) (path_of found place) is.state g (subst (λ ls. Path (Leads users) (beginning users boot) ls is.state) path is.leads) at)
 
--- what such a turn brought
+-- what such a turn delivered
 mail-of : (users : List User) (m : Made) (t : Turn) (from : List Position) (h : Going) (user number : ℕ) (a : Answer) → m.from ≡ from → m.turn ≡ t → m.going ≡ h → IsMailed users from h user number t a → IsMailed users m.from m.going user number m.turn a
 mail-of users m t from h user number a same turn going mail =
     subst (λ (ps : List Position). IsMailed users ps m.going user number m.turn a) (sym same) (subst (λ (x : Going). IsMailed users from x user number m.turn a) (sym going) (subst (λ (u : Turn). IsMailed users from h user number u a) (sym turn) mail))
@@ -167,9 +167,9 @@ module _ {K : Type 0} (users : List User) (boot : Boot) (found : Entries K Turn)
   answers-found : AreAnswersFound users boot found done tables
   answers-found = record { entries = kept.answers.entries; each = each; all = all }
     where
-      each : (user number : ℕ) (told : List Told) (i : ℕ) (t : Told) → table_of tables user number ≡ Some told → slice_get told i ≡ Some t → IsAnswerFound users boot found done user number t
-      each user number told i t at there =
-          let a = kept.answers.each user number told i t at there in
+      each : (user number : ℕ) (witnesses : List Witness) (i : ℕ) (t : Witness) → table_of tables user number ≡ Some witnesses → slice_get witnesses i ≡ Some t → IsAnswerFound users boot found done user number t
+      each user number witnesses i t at there =
+          let a = kept.answers.each user number witnesses i t at there in
           let m = are.turns a.index a.made a.at in
           let p = paths-at found done a.made.place m.path m.at in
           record {
@@ -183,26 +183,26 @@ module _ {K : Type 0} (users : List User) (boot : Boot) (found : Entries K Turn)
         where
           is : (a : IsAnswerOf users shown.turns user number t) → last_answer a.made.going.book ≡ Some a.made.answer → IsOwnAnswer a.made user number t.answer ⊎ IsMailed users a.made.from a.made.going user number a.made.turn t.answer
               → IsAnswered t.turn a.made.going user number t.answer ⊎ IsMailed users a.made.from a.made.going user number t.turn t.answer
-          is a told (inl own) = inl (record {
+          is a said (inl own) = inl (record {
             user = ap (λ (u : Turn). u.pick.user) (sym a.turn) ∙ own.user;
             number = ap (λ (u : Turn). u.pick.number) (sym a.turn) ∙ own.number;
-            answer = told ∙ ap (λ x. Some x) own.answer;
+            answer = said ∙ ap (λ x. Some x) own.answer;
           })
-          is a told (inr mail) = inr (subst (λ u. IsMailed users a.made.from a.made.going user number u t.answer) a.turn mail)
+          is a said (inr mail) = inr (subst (λ u. IsMailed users a.made.from a.made.going user number u t.answer) a.turn mail)
 
-      all : (place : ℕ) (t : Turn) (g h : Going) (a : Answer) (told : List Told) → place < done → IsAt users boot found place g → Leads users t g h → last_answer h.book ≡ Some a → (a ≡ answer.Waits → ⊥)
-          → table_of tables t.pick.user t.pick.number ≡ Some told → IsAmong told a
-      all place t g h a told lt at step answered not there =
+      all : (place : ℕ) (t : Turn) (g h : Going) (a : Answer) (witnesses : List Witness) → place < done → IsAt users boot found place g → Leads users t g h → last_answer h.book ≡ Some a → (a ≡ answer.Waits → ⊥)
+          → table_of tables t.pick.user t.pick.number ≡ Some witnesses → IsAmong witnesses a
+      all place t g h a witnesses lt at step answered not there =
           let s = are.all place (path_of found place) g h t (at-paths found done place lt) at step in
           let m = are.turns s.number s.made s.at in
           let is : s.made.answer ≡ a = some-same s.made.answer a (sym m.turn.answer ∙ ap (λ (x : Going). last_answer x.book) s.going ∙ answered) in
-          subst (λ x. IsAmong told x) is (kept.answers.all s.number s.made told s.at (λ w. not (sym is ∙ w)) (ap (λ (u : Turn). table_of tables u.pick.user u.pick.number) s.turn ∙ there))
+          subst (λ x. IsAmong witnesses x) is (kept.answers.all s.number s.made witnesses s.at (λ w. not (sym is ∙ w)) (ap (λ (u : Turn). table_of tables u.pick.user u.pick.number) s.turn ∙ there))
 
   mail-found : IsMailFound users boot found done tables
-  mail-found = λ place t g h user number a told lt at step mail there.
+  mail-found = λ place t g h user number a witnesses lt at step mail there.
       let s = are.all place (path_of found place) g h t (at-paths found done place lt) at step in
       let from = made-from users boot found done place g s.made lt at s.place (are.turns s.number s.made s.at) in
-      kept.mail s.number s.made user number a told s.at (mail-of users s.made t g.places h user number a from s.turn s.going mail) there
+      kept.mail s.number s.made user number a witnesses s.at (mail-of users s.made t g.places h user number a from s.turn s.going mail) there
 
   -- a question failed in a state that was found, or by a turn from one
   judged-found : AreJudgedFound users boot found done questions failed
@@ -255,7 +255,7 @@ module _ {K : Type 0} (users : List User) (boot : Boot) (found : Entries K Turn)
       let path : is.path ≡ path_of found place = some-same is.path (path_of found place) (sym is.at ∙ at-paths found done place lt) in
       (s.0, (s.1, path-one users (beginning users boot) (path_of found place) s.0.going g (subst (λ ls. Path (Leads users) (beginning users boot) ls s.0.going) path is.leads) at))
 
-  -- what was shown before it stands in no later place
+  -- what was shown before it has no later place
   state-low : (place j : ℕ) → IsStateBefore shown.states place j → place ≤ j
   state-low place j b = let at = (are.states b.number b.sight b.at).place in let is = b.there in let before = b.before in omega (arith, at, is, before)
 
@@ -271,12 +271,12 @@ module _ {K : Type 0} (users : List User) (boot : Boot) (found : Entries K Turn)
           let is_over = (are.states place s.0 s.1.0).over.1 (subst (λ x. IsOver users x) (sym s.1.1) over) in
           state-low k.place place (kept.first.ends i place k s.0 at s.1.0 is_over (ap (λ x. standings users x) s.1.1 ∙ stands))
 
-      first_answer : (user number i place : ℕ) (told : List Told) (t : Told) (u : Turn) (g h : Going) → table_of tables user number ≡ Some told → slice_get told i ≡ Some t → place < done → IsAt users boot found place g → Leads users u g h
+      first_answer : (user number i place : ℕ) (witnesses : List Witness) (t : Witness) (u : Turn) (g h : Going) → table_of tables user number ≡ Some witnesses → slice_get witnesses i ≡ Some t → place < done → IsAt users boot found place g → Leads users u g h
           → IsGiven users u g h user number t.answer → t.place ≤ place
-      first_answer user number i place told t u g h at there lt is leads given =
+      first_answer user number i place witnesses t u g h at there lt is leads given =
           let s = are.all place (path_of found place) g h u (at-paths found done place lt) is leads in
           let m = are.turns s.number s.made s.at in
-          let low = turn-low t.place s.number s.made s.at (kept.first.answers user number i s.number told t s.made at there s.at (gave s.made (made-from users boot found done place g s.made lt is s.place m) s.turn s.going m.turn.answer given)) in
+          let low = turn-low t.place s.number s.made s.at (kept.first.answers user number i s.number witnesses t s.made at there s.at (gave s.made (made-from users boot found done place g s.made lt is s.place m) s.turn s.going m.turn.answer given)) in
           let here = s.place in
           omega (arith, low, here)
         where
@@ -324,10 +324,10 @@ begun-kept users questions ends tables failed none empty none_failed = record {
   answers = subst (λ (ts : Tables). AreAnswersOf users [] ts) (sym empty) (no-turns users);
   mail = no-mail users tables;
   judged = subst (λ (fs : List (Option Sighting)). AreJudged users questions nothing fs) (sym none_failed) (none-judged users questions);
-  first = record { ends = λ i j k s at there. absurd cc; answers = λ a b i j told t m at there shown. absurd cc; failures = record { states = λ i j p q s asks at there. absurd cc; turns = λ i j p t q m asks at there. absurd cc } };
+  first = record { ends = λ i j k s at there. absurd cc; answers = λ a b i j witnesses t m at there shown. absurd cc; failures = record { states = λ i j p q s asks at there. absurd cc; turns = λ i j p t q m asks at there. absurd cc } };
 }
 
--- behind it
+-- what is kept after it
 module _ {K W : Type 0} {Has : W → List User → Shown → Type 0} {w : Counting W} (users : List User) (boot : Boot) (found : Entries K Turn) (done : ℕ) (seen : HasSeenAll (HasCounted Has) w users (beginning users boot) (paths_below found done)) where
   pub kept-found : (questions : List AskedLine) (kinds : List Kind) (tables : Tables) (failed : List (Option Sighting)) → ((shown : Shown) → Has w.watch users shown → IsKept users questions shown kinds tables failed)
       → AreFound users boot found done questions kinds tables failed

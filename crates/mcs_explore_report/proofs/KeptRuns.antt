@@ -32,7 +32,7 @@ use Rattle.mcs_explore_report.specs.Found.{AreAnswersFound, AreAnswersInRuns, Ar
 use Rattle.mcs_explore_report.proofs.HeldRuns.{there, same, then_g, then_h}
 use Rattle.mcs_explore_report.proofs.Waiting.{mailed-entry}
 
--- in runs with the same statuses and places the users stand so too
+-- in runs with the same statuses and places the users have the same standings
 module _ (users : List User) (g h : Going) (places : g.places ≡ h.places) (statuses : (t : ObjId) → status_of (log_of g.book) t ≡ status_of (log_of h.book) t) where
   abbrev standing_at : Going → ℕ → Option User → Option Standing
   standing_at x i o = elim o [ None ↦ None | Some u ↦ elim (slice_get x.places i) [ None ↦ None | Some p ↦ standing_by u (status_of (log_of x.book) u.thread) p ] ]
@@ -57,7 +57,7 @@ module _ (users : List User) (g h : Going) (places : g.places ≡ h.places) (sta
   pub standings-same : standings users g ≡ standings users h
   standings-same = below-same (length users)
 
--- alike runs: the same turn is answered the same in both, and brings the same
+-- alike runs: the same turn has the same answer in both, and delivers the same
 module _ (numbered : Bool) (users : List User) (boot : Boot) (whole : IsFaultless boot) (range : AreInRange users) (g h : Going) (a : AreAlike numbered users boot g h) (core : CoreId) (k : Pick) (t : Going) (turn : IsTurn users core k g t) where
   abbrev left : Going
   left = then_g numbered users boot whole range g h a core k t turn
@@ -103,7 +103,7 @@ module _ {K : Type 0} (numbered : Bool) (users : List User) (boot : Boot) (whole
           let within = s.within in
           let table = answers.entries t.pick.user t.pick.number (record { one = turn.user; entry = turn.entry; is_user = turn.is_user; is_entry = turn.is_entry }) in
           record {
-            told = table.0;
+            witnesses = table.0;
             at = table.1;
             among =
                 answers.all s.place t s.going (then_h numbered users boot whole range g s.going s.like t.core t.pick h turn) a table.0 (omega (arith, within, all)) s.is.path (there numbered users boot whole range g s.going s.like t.core t.pick h turn)
@@ -116,7 +116,7 @@ module _ {K : Type 0} (numbered : Bool) (users : List User) (boot : Boot) (whole
           let within = s.within in
           let table = answers.entries user number (mailed-entry users boot n g h user number t a run it) in
           record {
-            told = table.0;
+            witnesses = table.0;
             at = table.1;
             among =
                 mail s.place t s.going (then_h numbered users boot whole range g s.going s.like t.core t.pick h turn) user number a table.0 (omega (arith, within, all)) s.is.path (there numbered users boot whole range g s.going s.like t.core t.pick h turn)

@@ -53,8 +53,8 @@ bad-end s ends real all =
     let e : IsRunEnd s.users s.boot one.one.standing = real one.one.standing (one.place, record { kind = one.one; at = one.at; same = refl }) in
     record { turns = e.turns; state = e.state; run = e.run; over = e.over; bad = ap (are_idle s.asked.items) e.is ∙ one.is }
 
--- a first place from which edges do not lead on is that of a run in which a user is stuck
-stuck-user : {K : Type 0} (s : UserScript) (found : Entries K Turn) (edges : List Edge) (notes : List Noted) (places : List (Option ℕ)) → AreFoundRuns s.users s.boot found → AreStuckUnled s.users s.boot s.lives.items found edges notes
+-- a first place from which no edges lead to an answer is that of a run in which a user is stuck
+stuck-user : {K : Type 0} (s : UserScript) (found : Entries K Turn) (edges : List (Edge Turn)) (notes : List Noted) (places : List (Option ℕ)) → AreFoundRuns s.users s.boot found → AreStuckUnled s.users s.boot s.lives.items found edges notes
     → AreFirstPlaces edges (length found) notes (length s.lives.items) places → list_all is_none places ≡ false → HasStuckUser s
 stuck-user s found edges notes places runs stuck first all =
     let one = some-not is_none places all in
@@ -154,7 +154,7 @@ which false true false any = inr (inr refl)
 which false true true any = absurd cc
 
 -- a script fails where a search shows a failure
-pub failing : {K : Type 0} (s : UserScript) (found : Entries K Turn) (done : ℕ) (edges : List Edge) (notes : List Noted) (places : List (Option ℕ)) (ends : List Kind) (tables : Tables) (failed : List (Option Sighting))
+pub failing : {K : Type 0} (s : UserScript) (found : Entries K Turn) (done : ℕ) (edges : List (Edge Turn)) (notes : List Noted) (places : List (Option ℕ)) (ends : List Kind) (tables : Tables) (failed : List (Option Sighting))
     → AreFoundRuns s.users s.boot found → AreRunEnds s.users s.boot ends → AreAnswersFound s.users s.boot found done tables → (length found ≤ done → AreAnswersInRuns s.users s.boot tables) → AreJudgedFound s.users s.boot found done s.asked.items failed
     → AreStuckUnled s.users s.boot s.lives.items found edges notes → AreFirstPlaces edges (length found) notes (length s.lives.items) places → (fails : Bool)
     → (fails ≡ true → HasMissed s.users ends tables failed s.asked.items (list_all is_none places) (length found) done)

@@ -1,4 +1,4 @@
--- `==` of statuses tells exactly whether they are the same.
+-- `==` of statuses decides whether they are the same.
 use Rattle.std.specs.Prelude.{ℕ, ◌≡◌, ◌↔◌, Bool, Option, Some, None, true, false}
 use Rattle.std.proofs.Common.{ap, rules, sym, ◌∙◌}
 use Rattle.mcs_types.specs.declared.id.ObjId.{ObjId}

@@ -12,7 +12,7 @@ use Rattle.mcs_explore_equivalence.proofs.Alikes.{over-there}
 use Rattle.mcs_explore_walk.specs.declared.walk.Turn.{Turn}
 use Rattle.mcs_explore_orders.specs.Seen.{AreAllSeen}
 use Rattle.mcs_explore_orders.specs.Trails.{Leads}
-use Rattle.mcs_explore_report.specs.declared.answers.Told.{Told}
+use Rattle.mcs_explore_report.specs.declared.answers.Witness.{Witness}
 use Rattle.mcs_explore_script.specs.declared.questions.AskedLine.{AskedLine}
 use Rattle.mcs_explore_report.specs.declared.judging.Sighting.{Sighting}
 use Rattle.mcs_explore_report.specs.Answers.{Tables, table_of}
@@ -53,12 +53,12 @@ module _ {K : Type 0} (numbered : Bool) (users : List User) (boot : Boot) (whole
       let same = standings-same users g s.going s.like.close.places (λ t. status-same (log_of g.book) (log_of s.going.book) ((by-likeness numbered).numbers (log_of g.book) (log_of s.going.book) s.like.close.logs) t) in
       near n k.place g run (first.ends i s.place k s.going at (below n g run) s.is.path (over-there numbered users boot g s.going s.like over) (sym same ∙ stands))
 
-  answer : (user number i n : ℕ) (told : List Told) (t : Told) (u : Turn) (g h : Going) → table_of tables user number ≡ Some told → slice_get told i ≡ Some t → IsRun users boot n g → Leads users u g h → IsGiven users u g h user number t.answer
+  answer : (user number i n : ℕ) (witnesses : List Witness) (t : Witness) (u : Turn) (g h : Going) → table_of tables user number ≡ Some witnesses → slice_get witnesses i ≡ Some t → IsRun users boot n g → Leads users u g h → IsGiven users u g h user number t.answer
       → depth_at found t.place ≤ n
-  answer user number i n told t u g h at in_table run turn given =
+  answer user number i n witnesses t u g h at in_table run turn given =
       let s = seen n g run in
       near n t.place g run
-      (first.answers user number i s.place told t u s.going (then_h numbered users boot whole range g s.going s.like u.core u.pick h turn) at in_table (below n g run) s.is.path (there numbered users boot whole range g s.going s.like u.core u.pick h turn) (go given))
+      (first.answers user number i s.place witnesses t u s.going (then_h numbered users boot whole range g s.going s.like u.core u.pick h turn) at in_table (below n g run) s.is.path (there numbered users boot whole range g s.going s.like u.core u.pick h turn) (go given))
     where
       go : IsGiven users u g h user number t.answer → IsGiven users u (seen n g run).going (then_h numbered users boot whole range g (seen n g run).going (seen n g run).like u.core u.pick h turn) user number t.answer
       go (inl own) = inl (

@@ -1,4 +1,4 @@
--- Where no run leads on to an answer.
+-- Where no run leads to an answer.
 use Rattle.std.specs.Prelude.{ℕ, zero, suc, ◌≡◌, ◌≤◌, ◌<◌, drop, ◌+◌, ◌-◌, ◌++◌, ◌⊎◌, ◌&&◌, ◌||◌, Bool, true, false, not, cond, flat_map, get_or, min, nat_lt, replicate, set, take, List, [], ◌∷◌, Option, Some, None, length, slice_get}
 use Rattle.std.specs.List.{list_any, position, position_or_len}
 use Rattle.std.proofs.Common.{refl, ap, sym, ◌∙◌, subst, inl, inr, arith, append_assoc}
@@ -99,9 +99,9 @@ first-marks-long states n =
     ∙ length-append (take (min (length n.settled) states) n.settled) (replicate (states - min (length n.settled) states) true)
     ∙ (let a = length-take (min (length n.settled) states) n.settled in let b = length-replicate (states - min (length n.settled) states) true in omega (arith, a, b))
 
-pub marks-within : (edges es : List Edge) (states s : ℕ) (n : Noted) (marks : List Bool) → es ≡ edges → s ≡ states → marks ≡ first_marks s n → AreWithin edges states → AreWithin es (length marks)
+pub marks-within : (edges es : List (Edge Turn)) (states s : ℕ) (n : Noted) (marks : List Bool) → es ≡ edges → s ≡ states → marks ≡ first_marks s n → AreWithin edges states → AreWithin es (length marks)
 marks-within edges es states s n marks same count is within =
-    subst (λ (m : ℕ). AreWithin es m) (sym (ap length is ∙ first-marks-long s n ∙ count)) (subst (λ (xs : List Edge). AreWithin xs states) (sym same) within)
+    subst (λ (m : ℕ). AreWithin es m) (sym (ap length is ∙ first-marks-long s n ∙ count)) (subst (λ (xs : List (Edge Turn)). AreWithin xs states) (sym same) within)
 
 -- the first mark that is none
 before-first : (bs : List Bool) (i : ℕ) → i < position_or_len not bs → is_marked bs i ≡ true
@@ -118,7 +118,7 @@ at-first [] lt = absurd (omega (arith, lt))
 at-first (true ∷ bs) lt = ap (λ (k : ℕ). is_marked (true ∷ bs) k) (one-on (position_or_len not bs)) ∙ at-first bs (omega (arith, lt))
 at-first (false ∷ bs) lt = refl
 
-first-unled : (edges : List Edge) (old new : List Bool) → AreAllLed edges old new → IsFirstUnled edges old (position not new)
+first-unled : (edges : List (Edge Turn)) (old new : List Bool) → AreAllLed edges old new → IsFirstUnled edges old (position not new)
 first-unled edges old new led = go (nat_lt (position_or_len not new) (length new)) refl
   where
     no : (b : Bool) → b ≡ false → b ≡ true → ⊥
@@ -132,11 +132,11 @@ first-unled edges old new led = go (nat_lt (position_or_len not new) (length new
     go false is = λ i lt.
         (led.each i).0 (before-first new i (let ge : length new ≤ position_or_len not new = grind (arith, common_steps, is) in let long = led.long in omega (arith, lt, ge, long)))
 
-pub stuck-at : (edges es : List Edge) (states s : ℕ) (n : Noted) (old new marks : List Bool) (o : Option ℕ) → es ≡ edges → s ≡ states → old ≡ first_marks s n → AreAllLed es old new → marks ≡ new → o ≡ position not marks
+pub stuck-at : (edges es : List (Edge Turn)) (states s : ℕ) (n : Noted) (old new marks : List Bool) (o : Option ℕ) → es ≡ edges → s ≡ states → old ≡ first_marks s n → AreAllLed es old new → marks ≡ new → o ≡ position not marks
     → IsFirstUnled edges (first_marks states n) o
 stuck-at edges es states s n old new marks o same count is led all first =
     subst (λ (x : Option ℕ). IsFirstUnled edges (first_marks states n) x) (sym (first ∙ ap (λ (ms : List Bool). position not ms) all))
-    (first-unled edges (first_marks states n) new (subst (λ (ms : List Bool). AreAllLed edges ms new) (is ∙ ap (λ (m : ℕ). first_marks m n) count) (subst (λ (xs : List Edge). AreAllLed xs old new) same led)))
+    (first-unled edges (first_marks states n) new (subst (λ (ms : List Bool). AreAllLed edges ms new) (is ∙ ap (λ (m : ℕ). first_marks m n) count) (subst (λ (xs : List (Edge Turn)). AreAllLed xs old new) same led)))
 
 -- what a list of what is wanted has
 module _ {A : Type 0} (wanted : A → Bool) (place : A → ℕ) where
@@ -146,11 +146,11 @@ module _ {A : Type 0} (wanted : A → Bool) (place : A → ℕ) where
   flat-has : (xs : List A) (k : ℕ) (x : A) → slice_get xs k ≡ Some x → wanted x ≡ true → (j : ℕ) × (slice_get (flat_map picked xs) j ≡ Some (place x))
   flat-has [] k x at is = absurd cc
   flat-has (y ∷ xs) zero x at is = (0, subst (λ (z : A). slice_get (picked z ++ flat_map picked xs) 0 ≡ Some (place x)) (sym (some-same y x at)) (ap (λ (b : Bool). slice_get (cond b (place x ∷ []) [] ++ flat_map picked xs) 0) is))
-  flat-has (y ∷ xs) (suc k) x at is = behind (wanted y) (flat-has xs k x at is)
+  flat-has (y ∷ xs) (suc k) x at is = following (wanted y) (flat-has xs k x at is)
     where
-      behind : (b : Bool) → ((j : ℕ) × (slice_get (flat_map picked xs) j ≡ Some (place x))) → (j : ℕ) × (slice_get (cond b (place y ∷ []) [] ++ flat_map picked xs) j ≡ Some (place x))
-      behind true r = (suc r.0, r.1)
-      behind false r = r
+      following : (b : Bool) → ((j : ℕ) × (slice_get (flat_map picked xs) j ≡ Some (place x))) → (j : ℕ) × (slice_get (cond b (place y ∷ []) [] ++ flat_map picked xs) j ≡ Some (place x))
+      following true r = (suc r.0, r.1)
+      following false r = r
 
   -- and what it comes from
   pub record IsPicked (xs : List A) (p : ℕ) : Type 0 where
@@ -172,7 +172,7 @@ module _ {A : Type 0} (wanted : A → Bool) (place : A → ℕ) where
       go true is (suc i) it rest = later y xs p (rest i it)
       go false is i it rest = later y xs p (rest i it)
 
--- that a state is near goes over to states that no later turn tells apart
+-- that a state is near carries over to states that no later turn distinguishes from it
 module _ (numbered : Bool) (users : List User) (boot : Boot) (whole : IsFaultless boot) (range : AreInRange users) (l : Live) where
   settled-same : (g h : Going) → AreAlike numbered users boot g h → is_settled users l g ≡ is_settled users l h
   settled-same g h a =
@@ -220,7 +220,7 @@ less-or-not (suc m) (suc n) = go (less-or-not m n)
 
 -- what was found, of which the first states were expanded
 module _ {K : Type 0} (numbered : Bool) (users : List User) (boot : Boot) (whole : IsFaultless boot) (range : AreInRange users) (found : Entries K Turn) (done : ℕ)
-    (edges : List Edge) (graph : IsGraphOfRuns numbered users boot found done edges) (shown : Shown) (are : AreShown users (beginning users boot) (paths_below found done) shown) (l : Live) (n : Noted) (noted : IsNotedBy users shown l n) where
+    (edges : List (Edge Turn)) (graph : IsGraphOfRuns numbered users boot found done edges) (shown : Shown) (are : AreShown users (beginning users boot) (paths_below found done) shown) (l : Live) (n : Noted) (noted : IsNotedBy users shown l n) where
   abbrev marks : List Bool
   marks = first_marks (length found) n
 
@@ -336,7 +336,7 @@ module _ {K : Type 0} (numbered : Bool) (users : List User) (boot : Boot) (whole
   self : (i : ℕ) (g : Going) → slice_get graph.states i ≡ Some g → AreAlike numbered users boot g g
   self i g at = alike-self numbered users boot whole range g (record { turns = _; run = (graph.each i g at).run })
 
-  -- edges lead on from where a run does
+  -- edges lead from where a run does
   pub stuck-there : (place : ℕ) (g : Going) → place < length found → (IsLed edges marks place → ⊥) → IsAt users boot found place g → IsLive users l g → ⊥
   stuck-there place g lt unled at live =
       let s = state-of place lt in
@@ -425,7 +425,7 @@ noted-turn users lives place t a from h shown old new = noted-on users lives (wi
 
 -- what is noted decides of each question where no run answers it
 module _ {K : Type 0} (numbered : Bool) (users : List User) (boot : Boot) (whole : IsFaultless boot) (range : AreInRange users) (found : Entries K Turn) (done : ℕ)
-    (edges : List Edge) (graph : IsGraphOfRuns numbered users boot found done edges) (shown : Shown) (are : AreShown users (beginning users boot) (paths_below found done) shown) (lives : List Live) (notes : List Noted) (noted : AreNotedBy users lives shown notes) where
+    (edges : List (Edge Turn)) (graph : IsGraphOfRuns numbered users boot found done edges) (shown : Shown) (are : AreShown users (beginning users boot) (paths_below found done) shown) (lives : List Live) (notes : List Noted) (noted : AreNotedBy users lives shown notes) where
   pub decided : length found ≤ done → AreAllSeen numbered users boot found → AreDecided users boot lives found edges notes
   decided all seen = record {
     long = noted.long;

@@ -1,4 +1,4 @@
--- What names no message, and what a mode tells apart.
+-- What names no message, and what a mode distinguishes.
 use Rattle.std.specs.Prelude.{ℕ, zero, suc, ◌≡◌, ◌==◌, ◌+◌, ◌/◌, ◌%◌, ◌<◌, ◌&&◌, ◌||◌, Bool, true, false, not, List, [], ◌∷◌, Some, length, decimal, bytes_eq, slice_get, if◌then◌else◌}
 use Rattle.std.specs.List.{list_all, list_any}
 use Rattle.std.specs.Fmt.{digit_glyph, digits_onto, digits}
@@ -110,11 +110,11 @@ by-mode true merges is = let same : true ≡ false = ap are_numbered is in absur
 by-mode false merges is = refl
 
 pub all-decided : (boot : Boot) (users : List User) (questions : List AskedLine) (exact numbered : Bool) → mode_of boot users questions exact ≡ Proved numbered → (i : ℕ) (q : AskedLine) → slice_get questions i ≡ Some q → IsDecided numbered q.asked
-all-decided boot users questions exact true is i q at = told q.asked
+all-decided boot users questions exact true is i q at = witnesses q.asked
   where
-    told : (a : Asked) → IsDecided true a
-    told (asked.Never pattern) = tt
-    told _ = tt
+    witnesses : (a : Asked) → IsDecided true a
+    witnesses (asked.Never pattern) = tt
+    witnesses _ = tt
 all-decided boot users questions exact false is i q at =
     let none = by-mode (exact || any_message questions) (makes_objects users && not (any_later boot questions)) is in
     unnamed q.asked (none-at (λ (l : AskedLine). names_message l.asked) questions i q (or-right exact (any_message questions) none) at)

@@ -14,7 +14,7 @@ use Rattle.mcs_turns.specs.declared.program.Saved.{Saved}
 use Rattle.mcs_turns.specs.declared.program.Settled.{Settled}
 use Rattle.mcs_turns.specs.Mail.{reached_from}
 use Rattle.mcs_turns.specs.Programs.{goes_on, starts}
-use Rattle.mcs_turns.specs.Turns.{User, Going, IsRun, IsTurn, all_told, behind, comes_of, given, gone_on, listed_behind, outcome, place_told, put_at, saved_at, started, told, told_all, told_if, waiting_behind}
+use Rattle.mcs_turns.specs.Turns.{User, Going, IsRun, IsTurn, all_answered, position_after, comes_of, given, gone_on, listed_after, outcome, place_answered, put_at, saved_at, started, answered, answered_all, answered_if, waiting_after}
 use Rattle.mcs_explore_walk.specs.declared.walk.Turn.{Turn}
 use Rattle.mcs_turns.specs.declared.reached.Reached.{Reached}
 use Rattle.mcs_explore_script.specs.UserLists.{user_of}
@@ -48,7 +48,7 @@ started-in (u ∷ us) zero p at = ap (λ (q : Position). q.waited) (sym (some-sa
 started-in (u ∷ us) (suc i) p at = started-in us i p at
 
 -- a user whose entry waits waits with it
-waiting-it : (os : List Op) (u : User) (number m : ℕ) (s : Saved) → (waiting_behind os u number s).waited ≡ Some m → m ≡ number
+waiting-it : (os : List Op) (u : User) (number m : ℕ) (s : Saved) → (waiting_after os u number s).waited ≡ Some m → m ≡ number
 waiting-it [] u number m s e = sym (some-same number m e)
 waiting-it (o ∷ os) u number m s e = sym (some-same number m e)
 
@@ -57,17 +57,17 @@ free : (u : User) (number m : ℕ) (o : Option Settled) (p : Position) → p.wai
 free u number m o p none e = let waits : None ≡ Some m = sym none ∙ gone-waits o u p m e in absurd cc
 
 -- after an entry its user waits with it, if with one
-behind-it : (u : User) (number m : ℕ) (s : Saved) (a : Answer) → (behind u number s a).waited ≡ Some m → m ≡ number
-behind-it u number m s answer.Waits e = waiting-it u.ops u number m s e
-behind-it u number m s answer.Done e = absurd (free u number m (goes_on u.ops number s answer.Done) (listed_behind u number s answer.Done) refl e)
-behind-it u number m s (answer.Got badge message) e = absurd (free u number m (goes_on u.ops number s (answer.Got badge message)) (listed_behind u number s (answer.Got badge message)) refl e)
-behind-it u number m s (answer.Heard word) e = absurd (free u number m (goes_on u.ops number s (answer.Heard word)) (listed_behind u number s (answer.Heard word)) refl e)
-behind-it u number m s answer.Empty e = absurd (free u number m (goes_on u.ops number s answer.Empty) (listed_behind u number s answer.Empty) refl e)
-behind-it u number m s (answer.Refused why) e = absurd (free u number m (goes_on u.ops number s (answer.Refused why)) (listed_behind u number s (answer.Refused why)) refl e)
+after-it : (u : User) (number m : ℕ) (s : Saved) (a : Answer) → (position_after u number s a).waited ≡ Some m → m ≡ number
+after-it u number m s answer.Waits e = waiting-it u.ops u number m s e
+after-it u number m s answer.Done e = absurd (free u number m (goes_on u.ops number s answer.Done) (listed_after u number s answer.Done) refl e)
+after-it u number m s (answer.Got badge message) e = absurd (free u number m (goes_on u.ops number s (answer.Got badge message)) (listed_after u number s (answer.Got badge message)) refl e)
+after-it u number m s (answer.Heard word) e = absurd (free u number m (goes_on u.ops number s (answer.Heard word)) (listed_after u number s (answer.Heard word)) refl e)
+after-it u number m s answer.Empty e = absurd (free u number m (goes_on u.ops number s answer.Empty) (listed_after u number s answer.Empty) refl e)
+after-it u number m s (answer.Refused why) e = absurd (free u number m (goes_on u.ops number s (answer.Refused why)) (listed_after u number s (answer.Refused why)) refl e)
 
 -- what waits after something reached a user waited before
-told-waits : (u : User) (a : Answer) (p : Position) (m : ℕ) → (told u a p).waited ≡ Some m → p.waited ≡ Some m
-told-waits u a p m e = go p.waited e
+answered-waits : (u : User) (a : Answer) (p : Position) (m : ℕ) → (answered u a p).waited ≡ Some m → p.waited ≡ Some m
+answered-waits u a p m e = go p.waited e
   where
     last : (number : ℕ) (b : Bool) → (cond b (gone_on (goes_on u.ops number p.saved a) u p) p).waited ≡ Some m → p.waited ≡ Some m
     last number true e = gone-waits (goes_on u.ops number p.saved a) u p m e
@@ -80,30 +80,30 @@ told-waits u a p m e = go p.waited e
     go None e = e
     go (Some number) e = last number (comes_of u number a) e
 
-told-if-waits : (u : User) (r : Reached) (p : Position) (m : ℕ) → (told_if u r p).waited ≡ Some m → p.waited ≡ Some m
-told-if-waits u r p m e = go (same u.thread r.thread) e
+answered-if-waits : (u : User) (r : Reached) (p : Position) (m : ℕ) → (answered_if u r p).waited ≡ Some m → p.waited ≡ Some m
+answered-if-waits u r p m e = go (same u.thread r.thread) e
   where
-    go : (b : Bool) → (cond b (told u r.answer p) p).waited ≡ Some m → p.waited ≡ Some m
-    go true e = told-waits u r.answer p m e
+    go : (b : Bool) → (cond b (answered u r.answer p) p).waited ≡ Some m → p.waited ≡ Some m
+    go true e = answered-waits u r.answer p m e
     go false e = e
 
-told-all-waits : (rs : List Reached) (u : User) (p : Position) (m : ℕ) → (told_all rs u p).waited ≡ Some m → p.waited ≡ Some m
-told-all-waits [] u p m e = e
-told-all-waits (r ∷ rs) u p m e = told-if-waits u r p m (told-all-waits rs u (told_if u r p) m e)
+answered-all-waits : (rs : List Reached) (u : User) (p : Position) (m : ℕ) → (answered_all rs u p).waited ≡ Some m → p.waited ≡ Some m
+answered-all-waits [] u p m e = e
+answered-all-waits (r ∷ rs) u p m e = answered-if-waits u r p m (answered-all-waits rs u (answered_if u r p) m e)
 
-place-told-waits : (rs : List Reached) (own : ℕ) (users : List User) (i : ℕ) (p : Position) (m : ℕ) → (place_told rs own users i p).waited ≡ Some m → p.waited ≡ Some m
-place-told-waits rs own users i p m e = go (i == own) (slice_get users i) e
+place-answered-waits : (rs : List Reached) (own : ℕ) (users : List User) (i : ℕ) (p : Position) (m : ℕ) → (place_answered rs own users i p).waited ≡ Some m → p.waited ≡ Some m
+place-answered-waits rs own users i p m e = go (i == own) (slice_get users i) e
   where
-    go : (b : Bool) (o : Option User) → (cond b p (elim o [ None ↦ p | Some u ↦ told_all rs u p ])).waited ≡ Some m → p.waited ≡ Some m
+    go : (b : Bool) (o : Option User) → (cond b p (elim o [ None ↦ p | Some u ↦ answered_all rs u p ])).waited ≡ Some m → p.waited ≡ Some m
     go true o e = e
     go false None e = e
-    go false (Some u) e = told-all-waits rs u p m e
+    go false (Some u) e = answered-all-waits rs u p m e
 
--- who is in a place was there before, and waited if it waits
-told-in : (rs : List Reached) (own i : ℕ) (users : List User) (ps : List Position) (j : ℕ) (p : Position) → slice_get (all_told rs own i users ps) j ≡ Some p → (q : Position) × ((slice_get ps j ≡ Some q) × ((m : ℕ) → p.waited ≡ Some m → q.waited ≡ Some m))
-told-in rs own i users [] j p at = absurd cc
-told-in rs own i users (q ∷ qs) zero p at = (q, (refl, λ m e. place-told-waits rs own users i q m (ap (λ (x : Position). x.waited) (some-same (place_told rs own users i q) p at) ∙ e)))
-told-in rs own i users (q ∷ qs) (suc j) p at = told-in rs own (i + 1) users qs j p at
+-- a user that is in a place was there before, and waited if it waits
+answered-in : (rs : List Reached) (own i : ℕ) (users : List User) (ps : List Position) (j : ℕ) (p : Position) → slice_get (all_answered rs own i users ps) j ≡ Some p → (q : Position) × ((slice_get ps j ≡ Some q) × ((m : ℕ) → p.waited ≡ Some m → q.waited ≡ Some m))
+answered-in rs own i users [] j p at = absurd cc
+answered-in rs own i users (q ∷ qs) zero p at = (q, (refl, λ m e. place-answered-waits rs own users i q m (ap (λ (x : Position). x.waited) (some-same (place_answered rs own users i q) p at) ∙ e)))
+answered-in rs own i users (q ∷ qs) (suc j) p at = answered-in rs own (i + 1) users qs j p at
 
 waits-entry : (users : List User) (boot : Boot) (n : ℕ) (g : Going) → IsRun users boot n g → (i m : ℕ) (p : Position) → slice_get g.places i ≡ Some p → p.waited ≡ Some m → IsEntry users i m
 waits-entry users boot zero g begins i m p at waits =
@@ -112,7 +112,7 @@ waits-entry users boot zero g begins i m p at waits =
     none : None ≡ Some m → ⊥
     none e = absurd cc
 waits-entry users boot (suc n) h (g, (run, follows)) i m p at waits =
-    let before = told-in (reached_from None (outcome g.book step).records) k.user 0 users (put_at k.user there g.places) i p (ap (λ (x : Going). slice_get x.places i) (sym turn.after) ∙ at) in
+    let before = answered-in (reached_from None (outcome g.book step).records) k.user 0 users (put_at k.user there g.places) i p (ap (λ (x : Going). slice_get x.places i) (sym turn.after) ∙ at) in
     go before.0 (put-in k.user there g.places i before.0 before.1.0) (before.1.1 m waits) (λ q was w. waits-entry users boot n g run i m q was w)
   where
     k : Pick
@@ -125,12 +125,12 @@ waits-entry users boot (suc n) h (g, (run, follows)) i m p at waits =
     step = record { core = follows.core; thread = turn.user.thread; entry = given g turn.user k turn.entry }
 
     there : Position
-    there = behind turn.user k.number (saved_at g k.user) (outcome g.book step).answer
+    there = position_after turn.user k.number (saved_at g k.user) (outcome g.book step).answer
 
     go : (q : Position) → ((i ≡ k.user) × (q ≡ there)) ⊎ (slice_get g.places i ≡ Some q) → q.waited ≡ Some m → ((q : Position) → slice_get g.places i ≡ Some q → q.waited ≡ Some m → IsEntry users i m) → IsEntry users i m
     go q (inr before) w old = old q before w
     go q (inl e) w old =
-        let number = behind-it turn.user k.number m (saved_at g k.user) (outcome g.book step).answer (ap (λ (x : Position). x.waited) (sym e.1) ∙ w) in
+        let number = after-it turn.user k.number m (saved_at g k.user) (outcome g.book step).answer (ap (λ (x : Position). x.waited) (sym e.1) ∙ w) in
         let is : IsEntry users k.user k.number = record { one = turn.user; entry = turn.entry; is_user = turn.is_user; is_entry = turn.is_entry } in
         subst (λ j. IsEntry users j m) (sym e.0) (subst (λ x. IsEntry users k.user x) (sym number) is)
 

@@ -8,36 +8,36 @@ use Rattle.mcs_turns.specs.declared.position.Pick.{Pick}
 use Rattle.mcs_turns.specs.Turns.{User, Going, is_send_at}
 use Rattle.mcs_explore_walk.specs.declared.walk.Turn.{Turn}
 use Rattle.mcs_explore_orders.specs.Shown.{Made}
-use Rattle.mcs_explore_report.specs.declared.answers.Told.{Told}
+use Rattle.mcs_explore_report.specs.declared.answers.Witness.{Witness}
 use Rattle.mcs_turns.specs.declared.reached.Reached.{Reached}
 use Rattle.mcs_explore_script.specs.UserLists.{user_of}
 use Rattle.mcs_turns.specs.Mail.{brought}
 
 -- the answers of the entries of all users
 abbrev pub Tables : Type 0
-Tables = List (List (List Told))
+Tables = List (List (List Witness))
 
 -- no answer of any entry
 abbrev pub no_answers : List User → Tables
 no_answers users = map (λ (u : User). map (λ (e : Entry). []) u.entries) users
 
 -- the answers of an entry, if there is such an entry
-abbrev pub table_of : Tables → ℕ → ℕ → Option (List Told)
+abbrev pub table_of : Tables → ℕ → ℕ → Option (List Witness)
 table_of tables user number = slice_get (unwrap_or (slice_get tables user) []) number
 
 -- this answer is among those
-pub record IsAmong (told : List Told) (a : Answer) : Type 0 where
+pub record IsAmong (witnesses : List Witness) (a : Answer) : Type 0 where
   pub place : ℕ
-  pub one : Told
-  pub at : slice_get told place ≡ Some one
+  pub one : Witness
+  pub at : slice_get witnesses place ≡ Some one
   pub same : one.answer ≡ a
 
 -- an answer is noted, if it is new
-pub record IsNew (t : Told) (old new : List Told) : Type 0 where
+pub record IsNew (t : Witness) (old new : List Witness) : Type 0 where
   pub none : IsAmong old t.answer → ⊥
   pub added : new ≡ old ++ t ∷ []
 
-abbrev pub IsNoted : Told → List Told → List Told → Type 0
+abbrev pub IsNoted : Witness → List Witness → List Witness → Type 0
 IsNoted t old new = (IsAmong old t.answer × (new ≡ old)) ⊎ IsNew t old new
 
 -- what is in a place is changed so, if something does, and nothing else is changed
@@ -52,14 +52,14 @@ abbrev pub IsChangedAt : {A : Type 0} → (A → A → Type 0) → ℕ → List 
 IsChangedAt Change i old new = ((slice_get old i ≡ None) × (new ≡ old)) ⊎ IsChanged Change i old new
 
 -- an answer of an entry of a user is noted, if there is such an entry, and no other
-abbrev pub IsNotedIn : ℕ → Told → List (List Told) → List (List Told) → Type 0
+abbrev pub IsNotedIn : ℕ → Witness → List (List Witness) → List (List Witness) → Type 0
 IsNotedIn number t old new = IsChangedAt (IsNoted t) number old new
 
-abbrev pub IsNotedOf : ℕ → ℕ → Told → Tables → Tables → Type 0
+abbrev pub IsNotedOf : ℕ → ℕ → Witness → Tables → Tables → Type 0
 IsNotedOf user number t old new = IsChangedAt (IsNotedIn number t) user old new
 
 -- what a turn was answered is noted, but for Waits
-abbrev pub IsNotedTurn : Told → Tables → Tables → Type 0
+abbrev pub IsNotedTurn : Witness → Tables → Tables → Type 0
 IsNotedTurn t old new = ((t.answer ≡ answer.Waits) × (new ≡ old)) ⊎ IsNotedOf t.turn.pick.user t.turn.pick.number t old new
 
 -- the number of an entry of a user
@@ -102,8 +102,8 @@ mailed_to users from t r = elim (user_of users r.thread) [
   ]
 ]
 
--- what is told is noted for this entry, if there is one
-abbrev pub IsNotedFor : Option Pick → Told → Tables → Tables → Type 0
+-- what is learned is noted for this entry, if there is one
+abbrev pub IsNotedFor : Option Pick → Witness → Tables → Tables → Type 0
 IsNotedFor None t old new = new ≡ old
 IsNotedFor (Some e) t old new = IsNotedOf e.user e.number t old new
 
@@ -126,7 +126,7 @@ pub record IsMailed (users : List User) (from : List Position) (g : Going) (user
   pub answer : reached.answer ≡ a
 
 -- an answer of an entry is that of a turn that was shown
-pub record IsAnswerOf (users : List User) (turns : List Made) (user number : ℕ) (t : Told) : Type 0 where
+pub record IsAnswerOf (users : List User) (turns : List Made) (user number : ℕ) (t : Witness) : Type 0 where
   pub index : ℕ
   pub made : Made
   pub at : slice_get turns index ≡ Some made
@@ -137,10 +137,10 @@ pub record IsAnswerOf (users : List User) (turns : List Made) (user number : ℕ
 -- each answer of an entry is that of a turn that was shown, and each answer of such a turn but
 -- Waits is among those of its entry
 pub record AreAnswersOf (users : List User) (turns : List Made) (tables : Tables) : Type 0 where
-  pub entries : (user number : ℕ) → IsEntry users user number → (told : List Told) × (table_of tables user number ≡ Some told)
-  pub each : (user number : ℕ) (told : List Told) (i : ℕ) (t : Told) → table_of tables user number ≡ Some told → slice_get told i ≡ Some t → IsAnswerOf users turns user number t
-  pub all : (j : ℕ) (m : Made) (told : List Told) → slice_get turns j ≡ Some m → (m.answer ≡ answer.Waits → ⊥) → table_of tables m.turn.pick.user m.turn.pick.number ≡ Some told → IsAmong told m.answer
+  pub entries : (user number : ℕ) → IsEntry users user number → (witnesses : List Witness) × (table_of tables user number ≡ Some witnesses)
+  pub each : (user number : ℕ) (witnesses : List Witness) (i : ℕ) (t : Witness) → table_of tables user number ≡ Some witnesses → slice_get witnesses i ≡ Some t → IsAnswerOf users turns user number t
+  pub all : (j : ℕ) (m : Made) (witnesses : List Witness) → slice_get turns j ≡ Some m → (m.answer ≡ answer.Waits → ⊥) → table_of tables m.turn.pick.user m.turn.pick.number ≡ Some witnesses → IsAmong witnesses m.answer
 
--- what a turn that was shown brought to an entry that waited is among the answers of that entry
+-- what a turn that was shown delivered to an entry that waited is among the answers of that entry
 abbrev pub AreMailOf : List User → List Made → Tables → Type 0
-AreMailOf users turns tables = (j : ℕ) (m : Made) (user number : ℕ) (a : Answer) (told : List Told) → slice_get turns j ≡ Some m → IsMailed users m.from m.going user number m.turn a → table_of tables user number ≡ Some told → IsAmong told a
+AreMailOf users turns tables = (j : ℕ) (m : Made) (user number : ℕ) (a : Answer) (witnesses : List Witness) → slice_get turns j ≡ Some m → IsMailed users m.from m.going user number m.turn a → table_of tables user number ≡ Some witnesses → IsAmong witnesses a

@@ -34,7 +34,7 @@ is_idle questions s = is_some (waits_for s.status) && is_excused questions s
 abbrev pub are_idle : List AskedLine → List Standing → Bool
 are_idle questions ss = list_all (is_idle questions) ss
 
--- whether a user waits for another, and may not for ever
+-- whether a user waits for another, and may not wait for ever
 abbrev pub is_deadlocked : List AskedLine → Standing → Bool
 is_deadlocked questions s = is_some (waits_for s.status) && not (is_excused questions s)
 

@@ -6,13 +6,14 @@ use Rattle.mcs_explore_report.specs.declared.ends.Standing.{Standing}
 use Rattle.mcs_explore_orders.specs.Shown.{Sight}
 use Rattle.mcs_explore_report.specs.Standings.{standings}
 
--- how the users stand, in how many states they do, and the place of the first of these
+-- the standings of the users, in how many states they have these, and the place of the first of
+-- them
 pub record Kind : Type 0 where
   pub standing : List Standing
   pub count : ℕ
   pub place : ℕ
 
--- the kind in a place is that in which the users stand so
+-- the kind in a place is that with these standings
 pub record IsKindAt (kinds : List Kind) (standing : List Standing) (i : ℕ) : Type 0 where
   pub kind : Kind
   pub at : slice_get kinds i ≡ Some kind
@@ -49,7 +50,7 @@ IsNoted standing place old new = IsMerged (record { standing = standing; count =
 abbrev pub IsNotedIf : Bool → List Standing → ℕ → List Kind → List Kind → Type 0
 IsNotedIf over standing place old new = ((over ≡ false) × (new ≡ old)) ⊎ ((over ≡ true) × IsNoted standing place old new)
 
--- in one of the kinds the users stand so
+-- one of the kinds has these standings
 abbrev pub HasKind : List Kind → List Standing → Type 0
 HasKind kinds standing = (i : ℕ) × IsKindAt kinds standing i
 
@@ -69,7 +70,7 @@ pub record AreAllEnds (ks ds ends : List Kind) : Type 0 where
   pub deep : (i : ℕ) (k : Kind) → slice_get ds i ≡ Some k → HasKind ends k.standing
   pub only : (standing : List Standing) → HasKind ends standing → HasKind ks standing ⊎ HasKind ds standing
 
--- some run is over in which the users stand so
+-- some run is over in which the users have these standings
 pub record IsRunEnd (users : List User) (boot : Boot) (standing : List Standing) : Type 0 where
   pub turns : ℕ
   pub state : Going

@@ -38,7 +38,8 @@ pub record FailsInRun (users : List User) (boot : Boot) (q : Asked) : Type 0 whe
   pub is : IsSeenFrom users state turn going
   pub fails : fails users q turn going ≡ true
 
--- in some run a user that may not get stuck is: no run goes on from there to an answer of it
+-- in some run a user that must not get stuck is stuck: no run continues from there to an answer of
+-- it
 pub record HasStuckUser (s : UserScript) : Type 0 where
   pub index : ℕ
   pub live : Live

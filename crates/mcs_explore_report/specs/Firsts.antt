@@ -5,7 +5,7 @@ use Rattle.mcs_types.specs.declared.entry.Answer.TheVariants as answer
 use Rattle.mcs_turns.specs.Turns.{User}
 use Rattle.mcs_explore_walk.specs.declared.walk.Turn.{Turn}
 use Rattle.mcs_explore_orders.specs.Shown.{Made, Shown, Sight}
-use Rattle.mcs_explore_report.specs.declared.answers.Told.{Told}
+use Rattle.mcs_explore_report.specs.declared.answers.Witness.{Witness}
 use Rattle.mcs_explore_script.specs.declared.questions.AskedLine.{AskedLine}
 use Rattle.mcs_explore_report.specs.declared.judging.Sighting.{Sighting}
 use Rattle.mcs_explore_report.specs.Answers.{IsMailed, IsOwnAnswer, Tables, table_of}
@@ -33,13 +33,13 @@ pub record IsTurnBefore (turns : List Made) (place j : ℕ) : Type 0 where
 abbrev pub HasGiven : List User → Made → ℕ → ℕ → Answer → Type 0
 HasGiven users m user number a = (IsOwnAnswer m user number a × (a ≡ answer.Waits → ⊥)) ⊎ IsMailed users m.from m.going user number m.turn a
 
--- no state that ends so was shown before the one that a kind of ends has
+-- for each kind of ends, no final state with the same standings was shown before that of the kind
 abbrev pub AreFirstEnds : List User → List Sight → List Kind → Type 0
 AreFirstEnds users states kinds = (i j : ℕ) (k : Kind) (s : Sight) → slice_get kinds i ≡ Some k → slice_get states j ≡ Some s → s.is_over ≡ true → standings users s.going ≡ k.standing → IsStateBefore states k.place j
 
 -- no turn that gave an answer was shown before the one that is kept of it
 abbrev pub AreFirstAnswers : List User → List Made → Tables → Type 0
-AreFirstAnswers users turns tables = (a b i j : ℕ) (told : List Told) (t : Told) (m : Made) → table_of tables a b ≡ Some told → slice_get told i ≡ Some t → slice_get turns j ≡ Some m → HasGiven users m a b t.answer → IsTurnBefore turns t.place j
+AreFirstAnswers users turns tables = (a b i j : ℕ) (witnesses : List Witness) (t : Witness) (m : Made) → table_of tables a b ≡ Some witnesses → slice_get witnesses i ≡ Some t → slice_get turns j ≡ Some m → HasGiven users m a b t.answer → IsTurnBefore turns t.place j
 
 -- no state and no turn in which a question fails was shown before the one that is kept of it
 pub record AreFirstFailures (users : List User) (questions : List AskedLine) (shown : Shown) (failed : List (Option Sighting)) : Type 0 where

@@ -1,4 +1,4 @@
--- What is reported about all states that were expanded (own).
+-- The findings over all states that were expanded (own).
 use Rattle.std.specs.Prelude.{ℕ, ◌≡◌, ◌<◌, ◌≤◌, ◌⊎◌, true, false, List, Option, Some, None, length, slice_get}
 use Rattle.mcs_types.specs.declared.entry.Answer.{Answer}
 use Rattle.mcs_types.specs.declared.entry.Answer.TheVariants as answer
@@ -10,7 +10,7 @@ use Rattle.mcs_explore_walk.specs.declared.walk.Turn.{Turn}
 use Rattle.mcs_explore_walk.specs.Walks.{last_answer}
 use Rattle.mcs_explore_orders.specs.Shown.{AreCounted, AreShown, Shown}
 use Rattle.mcs_explore_orders.specs.Trails.{Leads}
-use Rattle.mcs_explore_report.specs.declared.answers.Told.{Told}
+use Rattle.mcs_explore_report.specs.declared.answers.Witness.{Witness}
 use Rattle.mcs_explore_questions.specs.declared.asking.Asked.{Asked}
 use Rattle.mcs_explore_script.specs.declared.questions.AskedLine.{AskedLine}
 use Rattle.mcs_explore_report.specs.declared.judging.Sighting.{Sighting}
@@ -23,7 +23,8 @@ use Rattle.mcs_explore_report.specs.Answers.{IsAmong, IsEntry, IsMailed, Tables,
 abbrev pub IsAt : {K : Type 0} → List User → Boot → Entries K Turn → ℕ → Going → Type 0
 IsAt users boot found place g = Path (Leads users) (beginning users boot) (path_of found place) g
 
--- the state in the place of a kind of ends is over, and the users stand in it as the kind says
+-- the state in the place of a kind of ends is over, and the users have the standings of the kind in
+-- it
 pub record IsEndFound {K : Type 0} (users : List User) (boot : Boot) (found : Entries K Turn) (done : ℕ) (k : Kind) : Type 0 where
   pub within : k.place < done
   pub going : Going
@@ -46,7 +47,7 @@ pub record IsAnswered (t : Turn) (h : Going) (i n : ℕ) (a : Answer) : Type 0 w
 
 -- the rule has the turn of an answer from the state in its place: the entry was answered so, or
 -- waited, and this reached it
-pub record IsAnswerFound {K : Type 0} (users : List User) (boot : Boot) (found : Entries K Turn) (done user number : ℕ) (t : Told) : Type 0 where
+pub record IsAnswerFound {K : Type 0} (users : List User) (boot : Boot) (found : Entries K Turn) (done user number : ℕ) (t : Witness) : Type 0 where
   pub within : t.place < done
   pub state : Going
   pub going : Going
@@ -57,16 +58,16 @@ pub record IsAnswerFound {K : Type 0} (users : List User) (boot : Boot) (found :
 -- each entry has answers, each of them is that of a turn from a state that was expanded, and what
 -- each such turn was answered but Waits is among those of its entry
 pub record AreAnswersFound {K : Type 0} (users : List User) (boot : Boot) (found : Entries K Turn) (done : ℕ) (tables : Tables) : Type 0 where
-  pub entries : (user number : ℕ) → IsEntry users user number → (told : List Told) × (table_of tables user number ≡ Some told)
-  pub each : (user number : ℕ) (told : List Told) (i : ℕ) (t : Told) → table_of tables user number ≡ Some told → slice_get told i ≡ Some t → IsAnswerFound users boot found done user number t
-  pub all : (place : ℕ) (t : Turn) (g h : Going) (a : Answer) (told : List Told) → place < done → IsAt users boot found place g → Leads users t g h → last_answer h.book ≡ Some a → (a ≡ answer.Waits → ⊥)
-      → table_of tables t.pick.user t.pick.number ≡ Some told → IsAmong told a
+  pub entries : (user number : ℕ) → IsEntry users user number → (witnesses : List Witness) × (table_of tables user number ≡ Some witnesses)
+  pub each : (user number : ℕ) (witnesses : List Witness) (i : ℕ) (t : Witness) → table_of tables user number ≡ Some witnesses → slice_get witnesses i ≡ Some t → IsAnswerFound users boot found done user number t
+  pub all : (place : ℕ) (t : Turn) (g h : Going) (a : Answer) (witnesses : List Witness) → place < done → IsAt users boot found place g → Leads users t g h → last_answer h.book ≡ Some a → (a ≡ answer.Waits → ⊥)
+      → table_of tables t.pick.user t.pick.number ≡ Some witnesses → IsAmong witnesses a
 
--- what each turn from a state that was expanded brought to an entry that waited is among the
--- answers of that entry
+-- what each turn from an expanded state delivered to an entry that waited is among the answers of
+-- that entry
 abbrev pub IsMailFound : {K : Type 0} → List User → Boot → Entries K Turn → ℕ → Tables → Type 0
-IsMailFound users boot found done tables = (place : ℕ) (t : Turn) (g h : Going) (user number : ℕ) (a : Answer) (told : List Told) → place < done → IsAt users boot found place g → Leads users t g h → IsMailed users g.places h user number t a
-    → table_of tables user number ≡ Some told → IsAmong told a
+IsMailFound users boot found done tables = (place : ℕ) (t : Turn) (g h : Going) (user number : ℕ) (a : Answer) (witnesses : List Witness) → place < done → IsAt users boot found place g → Leads users t g h → IsMailed users g.places h user number t a
+    → table_of tables user number ≡ Some witnesses → IsAmong witnesses a
 
 -- each run of users that is over ends as one of these kinds says
 abbrev pub AreEndsInRuns : List User → Boot → List Kind → Type 0
@@ -74,12 +75,12 @@ AreEndsInRuns users boot kinds = (n : ℕ) (g : Going) → IsRun users boot n g 
 
 -- this answer is among those of an entry
 pub record IsKeptOf (tables : Tables) (user number : ℕ) (a : Answer) : Type 0 where
-  pub told : List Told
-  pub at : table_of tables user number ≡ Some told
-  pub among : IsAmong told a
+  pub witnesses : List Witness
+  pub at : table_of tables user number ≡ Some witnesses
+  pub among : IsAmong witnesses a
 
--- what each turn of each run was answered, but Waits, and what it brought to an entry that waited,
--- is among the answers of its entry
+-- each answer of each turn of each run, unless Waits, and what the turn delivered to an entry that
+-- waited, is among the answers of its entry
 pub record AreAnswersInRuns (users : List User) (boot : Boot) (tables : Tables) : Type 0 where
   pub own : (n : ℕ) (t : Turn) (g h : Going) (a : Answer) → IsRun users boot n g → Leads users t g h → last_answer h.book ≡ Some a → (a ≡ answer.Waits → ⊥) → IsKeptOf tables t.pick.user t.pick.number a
   pub mail : (n : ℕ) (t : Turn) (g h : Going) (user number : ℕ) (a : Answer) → IsRun users boot n g → Leads users t g h → IsMailed users g.places h user number t a → IsKeptOf tables user number a
@@ -127,7 +128,7 @@ IsGiven users t g h user number a = (IsAnswered t h user number a × (a ≡ answ
 -- each end, each answer and each failure is kept in the first place that has one like it
 pub record AreFirstFound {K : Type 0} (users : List User) (boot : Boot) (found : Entries K Turn) (done : ℕ) (questions : List AskedLine) (kinds : List Kind) (tables : Tables) (failed : List (Option Sighting)) : Type 0 where
   pub ends : (i place : ℕ) (k : Kind) (g : Going) → slice_get kinds i ≡ Some k → place < done → IsAt users boot found place g → IsOver users g → standings users g ≡ k.standing → k.place ≤ place
-  pub answers : (user number i place : ℕ) (told : List Told) (t : Told) (u : Turn) (g h : Going) → table_of tables user number ≡ Some told → slice_get told i ≡ Some t → place < done → IsAt users boot found place g → Leads users u g h
+  pub answers : (user number i place : ℕ) (witnesses : List Witness) (t : Witness) (u : Turn) (g h : Going) → table_of tables user number ≡ Some witnesses → slice_get witnesses i ≡ Some t → place < done → IsAt users boot found place g → Leads users u g h
       → IsGiven users u g h user number t.answer → t.place ≤ place
   pub failures : (i place : ℕ) (q : AskedLine) (seen : Sighting) (t : Option Turn) (g h : Going) → slice_get questions i ≡ Some q → slice_get failed i ≡ Some (Some seen) → place < done → IsAt users boot found place g → IsSeenFrom users g t h
       → fails users q.asked t h ≡ true → seen.place ≤ place
@@ -141,7 +142,7 @@ pub record IsHeldInRuns (users : List User) (boot : Boot) (q : Asked) : Type 0 w
 -- than lead to that
 pub record AreShortest {K : Type 0} (users : List User) (boot : Boot) (found : Entries K Turn) (questions : List AskedLine) (kinds : List Kind) (tables : Tables) (failed : List (Option Sighting)) : Type 0 where
   pub ends : (i n : ℕ) (k : Kind) (g : Going) → slice_get kinds i ≡ Some k → IsRun users boot n g → IsOver users g → standings users g ≡ k.standing → depth_at found k.place ≤ n
-  pub answers : (user number i n : ℕ) (told : List Told) (t : Told) (u : Turn) (g h : Going) → table_of tables user number ≡ Some told → slice_get told i ≡ Some t → IsRun users boot n g → Leads users u g h
+  pub answers : (user number i n : ℕ) (witnesses : List Witness) (t : Witness) (u : Turn) (g h : Going) → table_of tables user number ≡ Some witnesses → slice_get witnesses i ≡ Some t → IsRun users boot n g → Leads users u g h
       → IsGiven users u g h user number t.answer → depth_at found t.place ≤ n
   pub failures : (i n : ℕ) (q : AskedLine) (seen : Sighting) (t : Option Turn) (g h : Going) → slice_get questions i ≡ Some q → slice_get failed i ≡ Some (Some seen) → IsRun users boot n g → IsSeenFrom users g t h
       → fails users q.asked t h ≡ true → depth_at found seen.place ≤ n

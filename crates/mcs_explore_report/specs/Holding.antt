@@ -22,7 +22,8 @@ use Rattle.mcs_explore_report.specs.Standings.{standings}
 use Rattle.mcs_explore_report.specs.Stuck.{IsLive}
 use Rattle.mcs_explore_report.specs.Verdicts.{is_said, lacks}
 
--- each answer of an entry, in each run, is one that the pattern matches, or not, as is wanted
+-- each answer of an entry, in each run, is one that the pattern matches, or does not match, as the
+-- question asks
 abbrev pub AllAnswersAre : List User → Boot → Event → List ℕ → Bool → Type 0
 AllAnswersAre users boot e pattern wanted = (user n : ℕ) (t : Turn) (g h : Going) (a : Answer) → user_of users e.thread ≡ Some user → IsRun users boot n g → Leads users t g h → IsGiven users t g h user (e.number - 1) a → is_said pattern a ≡ wanted
 
@@ -30,7 +31,8 @@ AllAnswersAre users boot e pattern wanted = (user n : ℕ) (t : Turn) (g h : Goi
 abbrev pub EachEndIsAnswered : List User → Boot → Event → Type 0
 EachEndIsAnswered users boot e = (n : ℕ) (g : Going) → IsRun users boot n g → IsOver users g → lacks e (standings users g) ≡ false
 
--- some answer of an entry, in some run, is one that the pattern matches, or not, as is wanted
+-- some answer of an entry, in some run, is one that the pattern matches, or does not match, as the
+-- question asks
 pub record SomeAnswerIs (users : List User) (boot : Boot) (e : Event) (pattern : List ℕ) (wanted : Bool) : Type 0 where
   pub user : ℕ
   pub of : user_of users e.thread ≡ Some user

@@ -84,22 +84,22 @@ record_lines n [] = []
 record_lines n (r ∷ rs) = record_text n r ∷ record_lines (sent_with n r) rs
 
 -- the lines of a trace after the step of a line of the book: its answer and its records
-abbrev pub lines_told : ℕ → Line → List (List ℕ)
-lines_told n l = answer_text l.answer ∷ record_lines n l.records
+abbrev pub line_texts : ℕ → Line → List (List ℕ)
+line_texts n l = answer_text l.answer ∷ record_lines n l.records
 
 -- those of the newest line of a book
-abbrev pub told_by : Log → List Line → List (List ℕ)
-told_by B [] = []
-told_by B (l ∷ ls) = lines_told (next_message (past B ls)) l
+abbrev pub newest_texts : Log → List Line → List (List ℕ)
+newest_texts B [] = []
+newest_texts B (l ∷ ls) = line_texts (next_message (past B ls)) l
 
-abbrev pub told_last : Book → List (List ℕ)
-told_last b = told_by (boot_log b.boot.lines) b.lines
+abbrev pub last_texts : Book → List (List ℕ)
+last_texts b = newest_texts (boot_log b.boot.lines) b.lines
 
 -- a line without its newline, which is its last byte
 abbrev pub bare : List ℕ → List ℕ
 bare line = take (length line - 1) line
 
--- whether a pattern stands for a line
+-- whether a pattern matches a line
 abbrev pub is_line : List ℕ → List ℕ → Bool
 is_line pattern line = is_match pattern (bare line)
 
@@ -110,7 +110,7 @@ fails_in users _ g = false
 
 -- whether it fails by a turn that led to this state
 abbrev pub fails_by : List User → Asked → Turn → Going → Bool
-fails_by users (asked.Never pattern) t h = list_any (is_line pattern.items) (told_last h.book)
+fails_by users (asked.Never pattern) t h = list_any (is_line pattern.items) (last_texts h.book)
 fails_by users (asked.Before first second) t h = gives users t second && not (has_given users h first)
 fails_by users _ t h = false
 

@@ -3,6 +3,7 @@ use Rattle.std.specs.Prelude.{ℕ, ◌≡◌, ◌<◌, ◌≤◌, ◌++◌, ◌�
 use Rattle.std.specs.List.{filter, list_all, list_any}
 use Rattle.mcs_turns.specs.Turns.{User}
 use Rattle.mcs_explore_search.specs.declared.search.Edge.{Edge}
+use Rattle.mcs_explore_walk.specs.declared.walk.Turn.{Turn}
 use Rattle.mcs_explore_questions.specs.declared.asking.Asked.{Asked}
 use Rattle.mcs_explore_questions.specs.Asking.{is_live, is_question}
 use Rattle.mcs_explore_script.specs.declared.questions.AskedLine.{AskedLine}
@@ -72,8 +73,8 @@ stuck_of questions places n = elim (slice_get places (count_lives questions n)) 
   | Some o ↦ elim o [ None ↦ None | Some place ↦ Some (record { place = place; turn = None }) ]
 ]
 
--- of each user that may not get stuck the first place from which no edges lead on to an answer
-pub record AreFirstPlaces (edges : List Edge) (states : ℕ) (notes : List Noted) (count : ℕ) (places : List (Option ℕ)) : Type 0 where
+-- for each user that must not get stuck the first place from which no edges lead to an answer
+pub record AreFirstPlaces (edges : List (Edge Turn)) (states : ℕ) (notes : List Noted) (count : ℕ) (places : List (Option ℕ)) : Type 0 where
   pub long : length places ≡ count
   pub each : (i : ℕ) (n : Noted) (o : Option ℕ) → slice_get notes i ≡ Some n → slice_get places i ≡ Some o → IsFirstUnled edges (first_marks states n) o
 

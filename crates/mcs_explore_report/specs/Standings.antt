@@ -1,4 +1,4 @@
--- How users stand where a run ends (own).
+-- The standings of users where a run ends (own).
 use Rattle.std.specs.Prelude.{ℕ, zero, suc, ◌++◌, ◌&&◌, ◌||◌, Bool, true, false, cond, nat_lt, is_some, List, [], ◌∷◌, Option, Some, None, length, slice_get}
 use Rattle.mcs_types.specs.declared.record.Status.{Status}
 use Rattle.mcs_types.specs.declared.record.Status.TheVariants as status
@@ -16,26 +16,27 @@ is_blocked (Some status.Running) = false
 is_blocked (Some status.Restart) = false
 is_blocked _ = true
 
--- how a user stands whose thread has this status; none where it has done all and waits for nothing
+-- the standing of a user whose thread has this status; none if it has given all its entries and
+-- waits for nothing
 abbrev pub standing_by : User → Option Status → Position → Option Standing
 standing_by u st p = cond (left || (is_blocked st && is_some p.waited)) (Some (record { thread = u.thread; status = st; has_entries = left; answered = answered_by st p })) None
   where
     left : Bool
     left = nat_lt (due_by st p) (length u.entries)
 
--- how the user in a place stands
+-- the standing of the user in a place
 abbrev pub standing_of : List User → Going → ℕ → Option Standing
 standing_of users g i = elim (slice_get users i) [
   | None ↦ None
   | Some u ↦ elim (slice_get g.places i) [ None ↦ None | Some p ↦ standing_by u (status_of (log_of g.book) u.thread) p ]
 ]
 
--- what stands, if it does
+-- a standing, if there is one, as a list
 abbrev pub listed : Option Standing → List Standing
 listed None = []
 listed (Some s) = s ∷ []
 
--- how the users in the first n places stand, and how all do
+-- the standings of the users in the first n places, and those of all
 abbrev pub standings_below : List User → Going → ℕ → List Standing
 standings_below users g zero = []
 standings_below users g (suc n) = standings_below users g n ++ listed (standing_of users g n)

@@ -50,7 +50,7 @@ abbrev pub is_waits : Answer → Bool
 is_waits answer.Waits = true
 is_waits _ = false
 
--- whether a turn from these positions, which brought this to threads, answers an entry that is
+-- whether a turn from these positions, which delivered this to threads, answers an entry that is
 -- asked about: its own, or one that waited
 abbrev pub answers : List User → Live → Turn → Answer → List Position → List Reached → Bool
 answers users l t a from rs = (is_about l t.pick && not (is_waits a)) || list_any (is_mailed users from t l) rs
@@ -63,7 +63,8 @@ answers_last users l t g h = elim (last_answer h.book) [ None ↦ false | Some a
 abbrev pub IsNear : List User → Live → Going → Type 0
 IsNear users l g = (is_settled users l g ≡ true) ⊎ ((t : Turn) × ((h : Going) × (Leads users t g h × (answers_last users l t g h ≡ true))))
 
--- a run leads on from a state to one where what is asked about is settled, or a turn answers it
+-- a run leads from a state to one where what is asked about is settled, or to a turn that answers
+-- it
 pub record IsLive (users : List User) (l : Live) (g : Going) : Type 0 where
   pub turns : ℕ
   pub going : Going
@@ -116,12 +117,12 @@ with_marks (p ∷ ps) marks = with_marks ps (with_mark p marks)
 abbrev pub first_marks : ℕ → Noted → List Bool
 first_marks states n = with_marks n.answered (take (min (length n.settled) states) n.settled ++ replicate (states - min (length n.settled) states) true)
 
--- the first place from which no edges lead on to a marked one; none where they do from each
-abbrev pub IsFirstUnled : List Edge → List Bool → Option ℕ → Type 0
+-- the first place from which no edges lead to a marked one; none if edges do so from each
+abbrev pub IsFirstUnled : List (Edge Turn) → List Bool → Option ℕ → Type 0
 IsFirstUnled edges marks None = (i : ℕ) → i < length marks → IsLed edges marks i
 IsFirstUnled edges marks (Some place) = (place < length marks) × ((IsLed edges marks place → ⊥) × ((i : ℕ) → i < place → IsLed edges marks i))
 
--- where no run leads on to an answer: at the first such place of all that were found, or nowhere
+-- the first place, of all that were found, from which no run leads to an answer
 pub record IsStuckAt {K : Type 0} (users : List User) (boot : Boot) (l : Live) (found : Entries K Turn) (place : ℕ) : Type 0 where
   pub within : place < length found
   pub stuck : (g : Going) → IsAt users boot found place g → IsLive users l g → ⊥
@@ -131,15 +132,15 @@ abbrev pub IsStuckFirst : {K : Type 0} → List User → Boot → Live → Entri
 IsStuckFirst users boot l found None = (n : ℕ) (g : Going) → IsRun users boot n g → IsLive users l g
 IsStuckFirst users boot l found (Some place) = IsStuckAt users boot l found place
 
--- what is noted of each user, and what edges do not lead on to from a place is what no run leads on
--- to
-pub record AreDecided {K : Type 0} (users : List User) (boot : Boot) (lives : List Live) (found : Entries K Turn) (edges : List Edge) (notes : List Noted) : Type 0 where
+-- for each user, the first place from which no edges lead to an answer is where it is stuck first;
+-- if there is none, it is never stuck
+pub record AreDecided {K : Type 0} (users : List User) (boot : Boot) (lives : List Live) (found : Entries K Turn) (edges : List (Edge Turn)) (notes : List Noted) : Type 0 where
   pub long : length notes ≡ length lives
   pub each : (i : ℕ) (l : Live) (n : Noted) (o : Option ℕ) → slice_get lives i ≡ Some l → slice_get notes i ≡ Some n → IsFirstUnled edges (first_marks (length found) n) o → IsStuckFirst users boot l found o
 
--- from a place that was found, and from which edges do not lead on to what is noted, no run leads
--- on to it, also where some states were not expanded
-pub record AreStuckUnled {K : Type 0} (users : List User) (boot : Boot) (lives : List Live) (found : Entries K Turn) (edges : List Edge) (notes : List Noted) : Type 0 where
+-- if no edges lead from a place that was found to what is noted, no run does, even if some states
+-- were not expanded
+pub record AreStuckUnled {K : Type 0} (users : List User) (boot : Boot) (lives : List Live) (found : Entries K Turn) (edges : List (Edge Turn)) (notes : List Noted) : Type 0 where
   pub long : length notes ≡ length lives
   pub each : (i : ℕ) (l : Live) (n : Noted) (place : ℕ) (g : Going) → slice_get lives i ≡ Some l → slice_get notes i ≡ Some n → place < length found → (IsLed edges (first_marks (length found) n) place → ⊥) → IsAt users boot found place g
       → IsLive users l g → ⊥

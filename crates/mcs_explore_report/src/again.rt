@@ -1,4 +1,4 @@
-//! Answered entries that a path gives again, as the rule of runs allows for lists.
+//! Answered entries that a path gives again, as the rule of runs lets lists do.
 use crate::mail::{brought, mailed_to};
 use mcs_explore_orders::{OrdersFault, Turn, Users, Walk};
 use mcs_explore_questions::Event;

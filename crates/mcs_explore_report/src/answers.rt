@@ -7,9 +7,9 @@ use mcs_types::{Answer, Entry};
 use std::alloc::{AllocError, Global};
 use std::marker::Model;
 
-/// An answer, and the first turn that brought it: from the state at this index.
+/// An answer, and the first turn that gave it: from the state at this index.
 #[derive(Drop)]
-pub struct Told {
+pub struct Witness {
     pub answer: Answer,
     pub place: usize,
     pub turn: Turn,
@@ -18,16 +18,16 @@ pub struct Told {
 /// The answers of an entry, in the order of discovery.
 #[derive(Drop)]
 struct Table {
-    told: Vec<Told>,
+    witnesses: Vec<Witness>,
 }
 
 impl Model for Table {
     ghost use Rattle.std.specs.Prelude.{List};
-    ghost use Rattle.mcs_explore_report.specs.declared.answers.Told.{Told};
+    ghost use Rattle.mcs_explore_report.specs.declared.answers.Witness.{Witness};
 
-    ghost Value = { List Told };
+    ghost Value = { List Witness };
 
-    ghost view = { λ t. t.told.items };
+    ghost view = { λ t. t.witnesses.items };
 }
 
 /// The answers of the entries of a user.
@@ -38,9 +38,9 @@ struct Tables {
 
 impl Model for Tables {
     ghost use Rattle.std.specs.Prelude.{List};
-    ghost use Rattle.mcs_explore_report.specs.declared.answers.Told.{Told};
+    ghost use Rattle.mcs_explore_report.specs.declared.answers.Witness.{Witness};
 
-    ghost Value = { List (List Told) };
+    ghost Value = { List (List Witness) };
 
     ghost view = { λ t. t.entries.items };
 }
@@ -54,9 +54,9 @@ pub struct Answers {
 
 impl Model for Answers {
     ghost use Rattle.std.specs.Prelude.{List};
-    ghost use Rattle.mcs_explore_report.specs.declared.answers.Told.{Told};
+    ghost use Rattle.mcs_explore_report.specs.declared.answers.Witness.{Witness};
 
-    ghost Value = { List (List (List Told)) };
+    ghost Value = { List (List (List Witness)) };
 
     ghost view = { λ a. a.users.items };
 }
@@ -67,7 +67,7 @@ impl Table {
         ensures { result ≡ [] }
     {
         Table {
-            told: Vec::new(alloc),
+            witnesses: Vec::new(alloc),
         }
     }
 
@@ -75,8 +75,8 @@ impl Table {
     fn has(&self, answer: &Answer) -> bool
         ensures { IsTrue result ↔ IsAmong self.now answer.now }
     {
-        for index in 0..self.told.len() {
-            if self.told[index].answer.is_same(answer) {
+        for index in 0..self.witnesses.len() {
+            if self.witnesses[index].answer.is_same(answer) {
                 return true;
             }
         }
@@ -84,10 +84,10 @@ impl Table {
     }
 
     /// Adds an answer to the end.
-    fn push(&mut self, told: Told) -> Result<(), OrdersFault>
-        ensures { OnOk result (self.new ≡ self.old ++ told ∷ []) }
+    fn push(&mut self, witness: Witness) -> Result<(), OrdersFault>
+        ensures { OnOk result (self.new ≡ self.old ++ witness ∷ []) }
     {
-        self.told.push(told)?;
+        self.witnesses.push(witness)?;
         Ok(())
     }
 
@@ -106,7 +106,7 @@ impl Table {
             return Ok(());
         }
         let answer = answer.copy(alloc)?;
-        self.push(Told {
+        self.push(Witness {
             answer,
             place,
             turn,
@@ -128,11 +128,11 @@ impl Tables {
     }
 
     /// The answers of an entry.
-    fn of(&self, number: usize) -> &[Told]
+    fn of(&self, number: usize) -> &[Witness]
         ensures { result.now ≡ unwrap_or (slice_get self.now number) [] }
     {
         match self.entries.get(number) {
-            Some(table) => table.told.as_slice(),
+            Some(table) => table.witnesses.as_slice(),
             None => &[],
         }
     }
@@ -174,7 +174,7 @@ impl Answers {
     }
 
     /// Returns the answers of an entry; none if the entry does not exist.
-    pub fn of(&self, user: usize, number: usize) -> &[Told]
+    pub fn of(&self, user: usize, number: usize) -> &[Witness]
         ensures { result.now ≡ unwrap_or (table_of self.now user number) [] }
     {
         match self.users.get(user) {

@@ -11,7 +11,7 @@ use mcs_explore_script::AskedLine;
 pub enum Ending {
     /// Each user has given all its entries and is not blocked, or may wait there for ever.
     AllDone,
-    /// A user is blocked that may not wait for ever.
+    /// Some user is blocked, and may not wait for ever.
     Deadlock,
     /// A user has entries left, and is not blocked.
     EntriesLeft,

@@ -40,7 +40,7 @@ fn entries_are_in_range(entries: &[Entry])
 }
 
 /// Proves that the numbers of all entries of users are in their ranges.
-fn are_in_range(users: &Users)
+pub fn are_in_range(users: &Users)
     ensures { AreInRange users.now }
 {
     let lists = users.lists();
@@ -52,7 +52,7 @@ fn are_in_range(users: &Users)
 }
 
 /// Searches all orders of users after a boot up to the wanted limits, reports its progress, and
-/// collects the findings. `mode_of` says which states it distinguishes.
+/// collects the findings. `mode_of` gives which states it distinguishes.
 pub fn watched<'a, P: Progress>(
     alloc: Global,
     boot: &'a Boot,
@@ -85,14 +85,14 @@ pub fn watched<'a, P: Progress>(
     // unless Waits
     ensures answers { IfOk result (λ o. AreAnswersFound users.now boot.now
         o.search.map.entries o.search.done o.explorer.watch.answers) }
-    // what each such turn brought to a waiting entry is kept
+    // what each such turn delivered to a waiting entry is kept
     ensures mail { IfOk result (λ o. IsMailFound users.now boot.now
         o.search.map.entries o.search.done o.explorer.watch.answers) }
     // whole search: the end of each run that is over is kept
     ensures run_ends { IfOk result (λ o. IsWholeSearch boot.now users.now asked.entry.now
         wanted.is_exact o.search.map.entries o.search.done
         → AreEndsInRuns users.now boot.now o.explorer.watch.ends) }
-    // and so is each answer of each turn of each run, unless Waits, and what it brought to a
+    // and so is each answer of each turn of each run, unless Waits, and what it delivered to a
     // waiting entry
     ensures run_answers { IfOk result (λ o. IsWholeSearch boot.now users.now asked.entry.now
         wanted.is_exact o.search.map.entries o.search.done

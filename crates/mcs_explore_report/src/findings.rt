@@ -7,7 +7,7 @@ ghost use Rattle.mcs_explore_report.specs.Outcomes.{AreFirstPlaces, IsHeld, IsMi
 ghost use Rattle.mcs_explore_report.specs.Verdicts.{IsVerdict, failed_at};
 
 use crate::again::given_again;
-use crate::answers::Told;
+use crate::answers::Witness;
 use crate::endings::{Ending, are_idle, ending_of};
 use crate::ends::{End, Ends};
 use crate::frontier::{deep_ends, is_given};
@@ -258,8 +258,8 @@ impl<'a, P: Progress> Findings<'a, P> {
         number: usize,
     ) -> Result<Vec<Answered>, LabFault> {
         let mut answers: Vec<Answered> = Vec::new(self.alloc);
-        for told in self.orders.watch().answers.of(user, number) {
-            let answer = self.answered(line, told)?;
+        for witness in self.orders.watch().answers.of(user, number) {
+            let answer = self.answered(line, witness)?;
             let place = answers
                 .iter()
                 .position(|other| answer.text < other.text)
@@ -270,12 +270,12 @@ impl<'a, P: Progress> Findings<'a, P> {
     }
 
     /// Returns an answer with its text.
-    fn answered(&self, line: &mut Line, told: &Told) -> Result<Answered, LabFault> {
+    fn answered(&self, line: &mut Line, witness: &Witness) -> Result<Answered, LabFault> {
         Ok(Answered {
-            text: text_of(self.alloc, line, &told.answer)?,
+            text: text_of(self.alloc, line, &witness.answer)?,
             seen: Sighting {
-                place: told.place,
-                turn: Some(told.turn),
+                place: witness.place,
+                turn: Some(witness.turn),
             },
         })
     }
@@ -346,7 +346,7 @@ impl<'a, P: Progress> Findings<'a, P> {
         }
     }
 
-    /// Returns why it says little that a question holds, if so.
+    /// Returns why the verdict that a question holds says little; None if it does not.
     fn little(&self, asked: &Asked) -> Result<Option<Unseen>, LabFault> {
         match asked {
             Asked::Answer { event, .. } | Asked::AnswerIf { event, .. } => {

@@ -51,8 +51,8 @@ fn note_deep<W: Watch>(
     }
 }
 
-/// Returns the ends among the states that were found but not expanded because of the depth.
-/// BookFull and OutOfMemory as for a search.
+/// Returns the ends among the states that were found but not expanded, because they are at the
+/// greatest depth. Fails with BookFull and OutOfMemory as a search does.
 pub fn deep_ends<W: Watch>(
     alloc: Global,
     script: &UserScript,

@@ -6,7 +6,7 @@ use crate::report::Report;
 use crate::watching::{Progress, Stop};
 use mcs_explore_questions::{Asked, Rule};
 use mcs_explore_script::{AskedLine, UserScript};
-use mcs_lab_inspect::Page;
+use mcs_lab_inspect::TextBuffer;
 use mcs_turns::Schedule;
 
 /// Returns the number of the first line that names a message.
@@ -30,7 +30,7 @@ fn line_of_later(script: &UserScript) -> u64 {
 }
 
 /// Appends which line makes the search distinguish something, since it names one.
-fn put_apart(page: &mut Page, what: &str, line: u64) {
+fn put_apart(page: &mut TextBuffer, what: &str, line: u64) {
     page.put(b"; ");
     page.put(what.as_bytes());
     page.put(b" are told apart: line ");
@@ -39,7 +39,7 @@ fn put_apart(page: &mut Page, what: &str, line: u64) {
 }
 
 /// Appends how states were distinguished, unless it is by all but message numbers.
-fn put_mode(page: &mut Page, script: &UserScript, is_exact: bool) {
+fn put_mode(page: &mut TextBuffer, script: &UserScript, is_exact: bool) {
     if is_exact {
         return page.put(b"; exact");
     }
@@ -62,7 +62,7 @@ fn rule_text(rule: Rule) -> &'static str {
         Rule::By(Schedule::Serial) => "schedule serial",
         Rule::By(Schedule::Equal) => "schedule equal",
         Rule::By(Schedule::Any) => "schedule any",
-        Rule::ToldOnce => "resumed goes on",
+        Rule::ResumedGoesOn => "resumed goes on",
     }
 }
 
@@ -83,7 +83,7 @@ pub fn rule_set(line: &AskedLine) -> Option<&'static str> {
 }
 
 /// Appends the rules that the lines of a script set for users.
-fn put_rules(page: &mut Page, asked: &[AskedLine]) {
+fn put_rules(page: &mut TextBuffer, asked: &[AskedLine]) {
     for rule in asked.iter().filter_map(rule_set) {
         page.put(b"; ");
         page.put(rule.as_bytes());
@@ -91,7 +91,7 @@ fn put_rules(page: &mut Page, asked: &[AskedLine]) {
 }
 
 /// Appends why a search was stopped; nothing if a budget of states or turns ended it.
-fn put_stop(page: &mut Page, stop: Option<Stop>) {
+fn put_stop(page: &mut TextBuffer, stop: Option<Stop>) {
     match stop {
         Some(Stop::Clock) => page.put(b"by the clock "),
         Some(Stop::Memory) => page.put(b"for lack of memory "),
@@ -100,7 +100,7 @@ fn put_stop(page: &mut Page, stop: Option<Stop>) {
 }
 
 /// Appends the first line: how much was found, whether the search was whole, and by which rules.
-pub fn put_head<P: Progress>(page: &mut Page, report: &Report<'_, P>) {
+pub fn put_head<P: Progress>(page: &mut TextBuffer, report: &Report<'_, P>) {
     let orders = report.findings.orders;
     if !orders.is_whole() {
         page.put(b"stopped ");

@@ -12,15 +12,15 @@ use crate::stuck_users::{StuckUsers, seen_at};
 use crate::text::put_verdict;
 use crate::watching::Progress;
 use mcs_explore_script::AskedLine;
-use mcs_lab_check::{LabFault, Names};
-use mcs_lab_inspect::{KINDS, NamesMember, Page};
+use mcs_lab_check::{LabFault, Labels};
+use mcs_lab_inspect::{KINDS, NamesMember, TextBuffer};
 use mcs_text::Token;
 use mcs_types::{ObjId, Status};
 use std::alloc::Global;
 use std::io::Write;
 
 /// Appends the beginning of an object: a thread, and its name where it has one.
-fn put_thread(page: &mut Page, names: &Names, thread: ObjId) {
+fn put_thread(page: &mut TextBuffer, names: &Labels, thread: ObjId) {
     page.put(b"{\"thread\":");
     page.quoted_word(&Token::Name(thread));
     page.name_member(names, thread);
@@ -38,7 +38,7 @@ fn status_text(status: Option<Status>) -> &'static str {
 }
 
 /// Appends what a user waits in or for as a member, if it waits.
-fn put_waits(page: &mut Page, names: &Names, status: Option<Status>) {
+fn put_waits(page: &mut TextBuffer, names: &Labels, status: Option<Status>) {
     match status {
         Some(Status::Queued(queue)) => {
             page.key("in");
@@ -57,7 +57,7 @@ fn put_waits(page: &mut Page, names: &Names, status: Option<Status>) {
 }
 
 /// Appends the slot that names an object as a member, if a user made it.
-fn put_origin(page: &mut Page, origin: Origin) {
+fn put_origin(page: &mut TextBuffer, origin: Origin) {
     match origin {
         Origin::Boot | Origin::NoSlot => {}
         Origin::Slot(slot) => {
@@ -72,7 +72,7 @@ fn put_origin(page: &mut Page, origin: Origin) {
 
 /// Appends a user that is not done at an end, as a JSON object.
 fn put_standing<P: Progress>(
-    page: &mut Page,
+    page: &mut TextBuffer,
     findings: &Findings<'_, P>,
     standing: &Standing,
     origin: Origin,
@@ -91,7 +91,7 @@ fn put_standing<P: Progress>(
 }
 
 /// Appends the name of a script as a member.
-fn put_script(page: &mut Page, alloc: Global, name: ScriptName) {
+fn put_script(page: &mut TextBuffer, alloc: Global, name: ScriptName) {
     page.key("script");
     page.put(b"\"");
     page.made(name.file_name(alloc));
@@ -99,7 +99,7 @@ fn put_script(page: &mut Page, alloc: Global, name: ScriptName) {
 }
 
 /// Appends the lines of steps of a script as a list.
-fn put_lines(page: &mut Page, script: &[u8]) {
+fn put_lines(page: &mut TextBuffer, script: &[u8]) {
     let mut is_first = true;
     page.put(b"[");
     for line in script.split(|byte| *byte == b'\n') {
@@ -115,7 +115,7 @@ fn put_lines(page: &mut Page, script: &[u8]) {
 /// Appends as a member the entry that is repeated after its answer on the way to what is seen, if
 /// any.
 fn put_again<P: Progress>(
-    page: &mut Page,
+    page: &mut TextBuffer,
     findings: &Findings<'_, P>,
     seen: Sighting,
 ) -> Result<(), LabFault> {
@@ -130,7 +130,7 @@ fn put_again<P: Progress>(
 
 /// Appends the script of what is seen and its number of turns as the last members of an object.
 fn put_steps<P: Progress>(
-    page: &mut Page,
+    page: &mut TextBuffer,
     report: &Report<'_, P>,
     name: ScriptName,
     seen: Sighting,
@@ -146,7 +146,7 @@ fn put_steps<P: Progress>(
 
 /// Appends a kind of end.
 fn put_end<P: Progress>(
-    page: &mut Page,
+    page: &mut TextBuffer,
     report: &Report<'_, P>,
     kind: &KindOfEnd<'_>,
 ) -> Result<(), LabFault> {
@@ -174,7 +174,7 @@ fn put_end<P: Progress>(
 /// Appends all kinds of ends as a member, and writes each of them.
 fn put_ends<P: Progress, W: Write>(
     to: &mut W,
-    page: &mut Page,
+    page: &mut TextBuffer,
     report: &Report<'_, P>,
 ) -> Result<(), LabFault> {
     page.key("kinds");
@@ -193,7 +193,7 @@ fn put_ends<P: Progress, W: Write>(
 
 /// Appends users that are stuck from the same state on.
 fn put_stuck<P: Progress>(
-    page: &mut Page,
+    page: &mut TextBuffer,
     report: &Report<'_, P>,
     number: usize,
     stuck: &StuckUsers,
@@ -221,8 +221,11 @@ fn put_stuck<P: Progress>(
     )
 }
 
-/// Appends all users that are stuck as a member.
-fn put_all_stuck<P: Progress>(page: &mut Page, report: &Report<'_, P>) -> Result<(), LabFault> {
+/// Appends the member that lists all users that are stuck.
+fn put_all_stuck<P: Progress>(
+    page: &mut TextBuffer,
+    report: &Report<'_, P>,
+) -> Result<(), LabFault> {
     page.key("stuck");
     page.put(b"[");
     for (index, stuck) in report.findings.stuck.iter().enumerate() {
@@ -234,7 +237,11 @@ fn put_all_stuck<P: Progress>(page: &mut Page, report: &Report<'_, P>) -> Result
 }
 
 /// Appends the answers of an entry as a member.
-fn put_answers<P: Progress>(page: &mut Page, findings: &Findings<'_, P>, entry: &AnsweredEntry) {
+fn put_answers<P: Progress>(
+    page: &mut TextBuffer,
+    findings: &Findings<'_, P>,
+    entry: &AnsweredEntry,
+) {
     page.key("answers");
     page.put(b"[");
     for (index, answer) in entry.answers.iter().enumerate() {
@@ -253,7 +260,11 @@ fn put_answers<P: Progress>(page: &mut Page, findings: &Findings<'_, P>, entry: 
 }
 
 /// Appends an entry.
-fn put_entry<P: Progress>(page: &mut Page, findings: &Findings<'_, P>, entry: &AnsweredEntry) {
+fn put_entry<P: Progress>(
+    page: &mut TextBuffer,
+    findings: &Findings<'_, P>,
+    entry: &AnsweredEntry,
+) {
     let event = entry.event;
     put_thread(page, &findings.script.names, event.thread);
     page.count_member("entry", event.number);
@@ -267,7 +278,7 @@ fn put_entry<P: Progress>(page: &mut Page, findings: &Findings<'_, P>, entry: &A
 }
 
 /// Appends all entries as a member.
-fn put_entries<P: Progress>(page: &mut Page, report: &Report<'_, P>) {
+fn put_entries<P: Progress>(page: &mut TextBuffer, report: &Report<'_, P>) {
     page.key("entries");
     page.put(b"[");
     for (index, entry) in report.entries.iter().enumerate() {
@@ -279,7 +290,7 @@ fn put_entries<P: Progress>(page: &mut Page, report: &Report<'_, P>) {
 
 /// Appends a question.
 fn put_question<P: Progress>(
-    page: &mut Page,
+    page: &mut TextBuffer,
     findings: &Findings<'_, P>,
     judged: &Judged<'_>,
 ) -> Result<(), LabFault> {
@@ -300,7 +311,10 @@ fn put_question<P: Progress>(
 }
 
 /// Appends all questions as a member.
-fn put_questions<P: Progress>(page: &mut Page, report: &Report<'_, P>) -> Result<(), LabFault> {
+fn put_questions<P: Progress>(
+    page: &mut TextBuffer,
+    report: &Report<'_, P>,
+) -> Result<(), LabFault> {
     page.key("questions");
     page.put(b"[");
     for (index, judged) in report.judged.iter().enumerate() {
@@ -312,7 +326,7 @@ fn put_questions<P: Progress>(page: &mut Page, report: &Report<'_, P>) -> Result
 }
 
 /// Appends the rules of users that the lines of a script set as a member, if there are some.
-fn put_rules_member(page: &mut Page, asked: &[AskedLine]) {
+fn put_rules_member(page: &mut TextBuffer, asked: &[AskedLine]) {
     if !asked.iter().any(|line| rule_set(line).is_some()) {
         return;
     }
@@ -326,7 +340,7 @@ fn put_rules_member(page: &mut Page, asked: &[AskedLine]) {
 }
 
 /// Appends how much was found as the first members.
-fn put_counts<P: Progress>(page: &mut Page, findings: &Findings<'_, P>) {
+fn put_counts<P: Progress>(page: &mut TextBuffer, findings: &Findings<'_, P>) {
     let orders = findings.orders;
     page.put(b"{\"states\":");
     page.count(orders.states());
@@ -338,7 +352,7 @@ fn put_counts<P: Progress>(page: &mut Page, findings: &Findings<'_, P>) {
 }
 
 /// Appends the names of the objects of the boot as a member, if there are some.
-fn put_names<P: Progress>(page: &mut Page, findings: &Findings<'_, P>) {
+fn put_names<P: Progress>(page: &mut TextBuffer, findings: &Findings<'_, P>) {
     let script = findings.script;
     let mut member = NamesMember::new(&script.names, false);
     for kind in KINDS {
@@ -348,8 +362,11 @@ fn put_names<P: Progress>(page: &mut Page, findings: &Findings<'_, P>) {
 }
 
 /// Appends the verdict as the last members, in a word and as the text has it.
-fn put_verdicts<P: Progress>(page: &mut Page, report: &Report<'_, P>) -> Result<(), LabFault> {
-    let mut verdict = Page::new(report.findings.alloc)?;
+fn put_verdicts<P: Progress>(
+    page: &mut TextBuffer,
+    report: &Report<'_, P>,
+) -> Result<(), LabFault> {
+    let mut verdict = TextBuffer::new(report.findings.alloc)?;
     put_verdict(&mut verdict, report);
     page.text_member("verdict", report.explored().text().as_bytes());
     page.text_member("told", verdict.text()?);
@@ -362,7 +379,7 @@ pub fn write_json<P: Progress, W: Write>(
     to: &mut W,
     report: &Report<'_, P>,
 ) -> Result<(), LabFault> {
-    let mut page = Page::new(report.findings.alloc)?;
+    let mut page = TextBuffer::new(report.findings.alloc)?;
     put_counts(&mut page, &report.findings);
     put_ends(to, &mut page, report)?;
     put_all_stuck(&mut page, report)?;

@@ -4,7 +4,7 @@ ghost use Rattle.std.specs.List.{list_all, list_any};
 ghost use Rattle.mcs_book.specs.History.{line_of_number, log_of};
 ghost use Rattle.mcs_book.specs.Messages.{next_message};
 ghost use Rattle.mcs_sim.specs.Trace.{sent_after, sent_with};
-ghost use Rattle.mcs_explore_report.specs.Judging.{answered, answered_by, bare, ended_by, fails, fails_by, fails_in, gave_by, given_by, gives, has_given, is_at, is_in, is_line, is_within, lines_told, record_lines, told_last};
+ghost use Rattle.mcs_explore_report.specs.Judging.{answered, answered_by, bare, ended_by, fails, fails_by, fails_in, gave_by, given_by, gives, has_given, is_at, is_in, is_line, is_within, line_texts, record_lines, last_texts};
 ghost use Rattle.mcs_explore_report.specs.Judged.{AreJudgedBy, judged};
 
 use mcs_book::Line as BookLine;
@@ -189,8 +189,8 @@ fn is_line(pattern: &[u8], line: &[u8]) -> bool
     is_match(pattern, bare(line))
 }
 
-/// Returns whether a pattern matches the text of a record of a line of the book, before which
-/// `before` messages were sent.
+/// Returns whether a pattern matches the text of some record of a line of the book. `before` is the
+/// number of messages sent before the line.
 fn has_record(text: &mut Line, line: &BookLine<'_>, before: u128, pattern: &[u8]) -> bool
     requires { before + 2 ^ 64 < 2 ^ 128 }
     ensures { result ≡ list_any (is_line pattern.now) (record_lines before line.now.records) }
@@ -213,7 +213,7 @@ fn has_record(text: &mut Line, line: &BookLine<'_>, before: u128, pattern: &[u8]
 /// `before` messages were sent.
 fn has_match(text: &mut Line, line: &BookLine<'_>, before: u128, pattern: &[u8]) -> bool
     requires { before + 2 ^ 64 < 2 ^ 128 }
-    ensures { result ≡ list_any (is_line pattern.now) (lines_told before line.now) }
+    ensures { result ≡ list_any (is_line pattern.now) (line_texts before line.now) }
 {
     spell_answer(text, &line.kept_answer());
     is_line(pattern, text.text()) || has_record(text, line, before, pattern)
@@ -221,7 +221,7 @@ fn has_match(text: &mut Line, line: &BookLine<'_>, before: u128, pattern: &[u8])
 
 /// Returns whether a pattern matches a line of the trace for the newest line of the book.
 fn tells(text: &mut Line, kernel: &Kernel<PlainLines>, pattern: &[u8]) -> bool
-    ensures { result ≡ list_any (is_line pattern.now) (told_last kernel.now) }
+    ensures { result ≡ list_any (is_line pattern.now) (last_texts kernel.now) }
 {
     let Some(line) = newest(kernel) else {
         return false;

@@ -35,12 +35,13 @@ mod text;
 mod verdicts;
 mod watching;
 
-pub use answers::{Answers, Told};
+pub use answers::{Answers, Witness};
 pub use endings::{Ending, are_idle, ending_of};
 pub use ends::{End, Ends, Standing};
-pub use exploring::{Wanted, watched};
+pub use exploring::{Wanted, are_in_range, watched};
 pub use judging::Sighting;
 pub use live::{Lives, Notes, stuck_at};
+pub use mail::reached_by;
 pub use mcs_explore_script::UserScript;
 pub use modes::{Mode, make_objects, mode_of};
 pub use naming::{names_later, names_message};

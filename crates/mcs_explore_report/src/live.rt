@@ -112,7 +112,7 @@ fn push_mark(marks: &mut Vec<bool>, mark: bool) -> Result<(), OrdersFault>
     Ok(())
 }
 
-/// Adds a place to the end, if that is wanted.
+/// Adds a place at the end, if the flag asks for it.
 fn push_place(places: &mut Vec<usize>, place: usize, wanted: bool) -> Result<(), OrdersFault>
     ensures { OnOk result (places.new.items ≡ places.old.items ++ cond wanted (place ∷ []) []) }
 {
@@ -158,7 +158,7 @@ impl Notes {
 }
 
 /// Returns whether a turn from these positions answers an entry asked about: the entry that it
-/// gives, or a waiting one, by what the turn brings to its thread.
+/// gives, or a waiting one, by what the turn delivers to its thread.
 fn answers(
     users: &Users,
     live: Live,
@@ -203,24 +203,32 @@ fn note_states(
     Ok(())
 }
 
-/// Notes for each question a turn from the state at an index, and what it brought to threads.
+/// A turn from the state at an index: its answer, the users' positions before it, and what it
+/// delivered to threads.
+#[derive(Clone, Copy)]
+struct MadeTurn<'a> {
+    place: usize,
+    turn: Turn,
+    answer: &'a Answer,
+    from: &'a [Position],
+    all: &'a [Reached],
+}
+
+/// Notes a turn for each question.
 fn note_turns(
     notes: &mut Vec<Notes>,
     lives: &[Live],
     users: &Users,
-    place: usize,
-    turn: Turn,
-    answer: &Answer,
-    from: &[Position],
-    all: &[Reached],
+    made: MadeTurn<'_>,
 ) -> Result<(), OrdersFault>
-    ensures { OnOk result (AreNotedOn (with_made users.now place turn answer.now from.now all.now)
+    ensures { OnOk result (AreNotedOn (with_made users.now made.entry.place made.entry.turn
+        made.entry.answer.now made.entry.from.now made.entry.all.now)
         lives.now notes.old.items notes.new.items) }
 {
     for number in 0..notes.len() {
         if let Some(live) = lives.get(number) {
-            let is_answer = answers(users, *live, turn, answer, from, all);
-            notes[number].note_turn(place, is_answer)?;
+            let is_answer = answers(users, *live, made.turn, made.answer, made.from, made.all);
+            notes[number].note_turn(made.place, is_answer)?;
         }
     }
     Ok(())
@@ -271,7 +279,7 @@ impl<'a> Lives<'a> {
         note_states(&mut self.notes, self.lives, users, walk)
     }
 
-    /// Notes for each question a turn from the state at an index, and what it brought to threads.
+    /// Notes for each question a turn from the state at an index, and what it delivered to threads.
     /// `OutOfMemory` if an allocation fails.
     pub fn see_turn(
         &mut self,
@@ -287,16 +295,14 @@ impl<'a> Lives<'a> {
             (with_made users.now place turn answer.now from.now all.now)
             self.old.lives self.old.notes self.new.notes) }
     {
-        note_turns(
-            &mut self.notes,
-            self.lives,
-            users,
+        let made = MadeTurn {
             place,
             turn,
             answer,
             from,
             all,
-        )
+        };
+        note_turns(&mut self.notes, self.lives, users, made)
     }
 }
 

@@ -90,7 +90,7 @@ fn push(all: &mut Vec<Reached>, reached: Option<Reached>) -> Result<(), OrdersFa
 }
 
 /// Returns what reaches threads by a line.
-fn reached_by(alloc: Global, line: &Line<'_>) -> Result<Vec<Reached>, OrdersFault>
+pub fn reached_by(alloc: Global, line: &Line<'_>) -> Result<Vec<Reached>, OrdersFault>
     ensures { IfOk result (λ v. v.items ≡ reached_from None line.now.records) }
 {
     let mut all = Vec::new(alloc);
@@ -150,7 +150,7 @@ pub fn mailed_to(users: &Users, from: &[Position], turn: Turn, reached: &Reached
     }
 }
 
-/// Notes the answer of a waiting entry whose thread this reached.
+/// Notes the answer of a waiting entry whose thread learns it.
 fn note_reached(
     answers: &mut Answers,
     users: &Users,
@@ -168,7 +168,7 @@ fn note_reached(
     }
 }
 
-/// Notes the answers of waiting entries, by what the newest line brought to their threads.
+/// Notes the answers of waiting entries, by what the newest line delivered to their threads.
 pub fn note_mail(
     answers: &mut Answers,
     users: &Users,
@@ -186,7 +186,7 @@ pub fn note_mail(
     Ok(())
 }
 
-/// Returns what the newest line brought to threads.
+/// Returns what the newest line delivered to threads.
 #[tactic(auto, using(mcs_explore_walk::proofs::LastLine::brought_by, mcs_explore_walk::proofs::LastLine::brought_nothing))]
 pub fn brought(alloc: Global, walk: &Walk<PlainLines>) -> Result<Vec<Reached>, OrdersFault>
     ensures { IfOk result (λ v. v.items ≡ brought walk.now.book) }

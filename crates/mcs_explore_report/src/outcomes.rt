@@ -58,7 +58,7 @@ impl Outcome {
         }
     }
 
-    /// Returns why it says little that it holds, if so.
+    /// Returns why the verdict that it holds says little; None if it does not.
     pub fn since(self) -> Option<Unseen> {
         match self {
             Outcome::HoldsSince(why) => Some(why),

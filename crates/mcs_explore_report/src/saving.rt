@@ -9,7 +9,7 @@ use crate::watching::Progress;
 use mcs_explore_questions::Event;
 use mcs_explore_script::UserScript;
 use mcs_lab_check::LabFault;
-use mcs_lab_inspect::Page;
+use mcs_lab_inspect::TextBuffer;
 use std::alloc::{AllocError, Global};
 
 /// The first line of each saved script.
@@ -72,8 +72,8 @@ impl ScriptName {
 
 /// Returns a comment that has only the first line of saved scripts. `AllocError` if an allocation
 /// fails.
-fn new_comment(alloc: Global) -> Result<Page, AllocError> {
-    let mut comment = Page::new(alloc)?;
+fn new_comment(alloc: Global) -> Result<TextBuffer, AllocError> {
+    let mut comment = TextBuffer::new(alloc)?;
     comment.put(MARK);
     Ok(comment)
 }
@@ -83,7 +83,7 @@ fn save<P: Progress, S: Saves>(
     report: &Report<'_, P>,
     saves: &mut S,
     name: ScriptName,
-    comment: &Page,
+    comment: &TextBuffer,
     seen: Sighting,
 ) -> Result<(), LabFault> {
     let alloc = report.findings.alloc;

@@ -85,8 +85,8 @@ fn add_stuck(
     }
     let mut users = Vec::new(alloc);
     users.push(user)?;
-    let behind = all.iter().position(|stuck| place < stuck.place);
-    let number = behind.unwrap_or(all.len());
+    let following = all.iter().position(|stuck| place < stuck.place);
+    let number = following.unwrap_or(all.len());
     all.insert(number, StuckUsers { place, users })?;
     Ok(())
 }

@@ -11,14 +11,14 @@ use crate::stuck_users::{StuckUsers, seen_at};
 use crate::watching::Progress;
 use mcs_explore_questions::Event;
 use mcs_explore_script::{AskedLine, UserScript};
-use mcs_lab_check::{LabFault, Names};
-use mcs_lab_inspect::Page;
+use mcs_lab_check::{LabFault, Labels};
+use mcs_lab_inspect::TextBuffer;
 use mcs_text::Token;
 use mcs_types::Status;
 use std::io::Write;
 
 /// Appends the slot that names an object, if a user made it.
-fn put_origin(page: &mut Page, origin: Origin) {
+fn put_origin(page: &mut TextBuffer, origin: Origin) {
     match origin {
         Origin::Boot => {}
         Origin::Slot(slot) => {
@@ -33,7 +33,7 @@ fn put_origin(page: &mut Page, origin: Origin) {
 }
 
 /// Appends what a user is blocked on, or why it does not run.
-fn put_status(page: &mut Page, names: &Names, status: Option<Status>, origin: Origin) {
+fn put_status(page: &mut TextBuffer, names: &Labels, status: Option<Status>, origin: Origin) {
     match status {
         Some(Status::Queued(queue)) => {
             page.put(b" waits in ");
@@ -54,7 +54,12 @@ fn put_status(page: &mut Page, names: &Names, status: Option<Status>, origin: Or
 }
 
 /// Appends a user of an end, and its state.
-pub fn put_standing(page: &mut Page, script: &UserScript, standing: &Standing, origin: Origin) {
+pub fn put_standing(
+    page: &mut TextBuffer,
+    script: &UserScript,
+    standing: &Standing,
+    origin: Origin,
+) {
     let names = &script.names;
     let number = standing.entry();
     let place = if standing.is_waiting() {
@@ -82,7 +87,7 @@ pub fn put_standing(page: &mut Page, script: &UserScript, standing: &Standing, o
 
 /// Appends the entry that is repeated after its answer on the way to what is seen, if any.
 fn put_again<P: Progress>(
-    page: &mut Page,
+    page: &mut TextBuffer,
     findings: &Findings<'_, P>,
     seen: Sighting,
 ) -> Result<(), LabFault> {
@@ -98,7 +103,7 @@ fn put_again<P: Progress>(
 
 /// Appends a kind of end, each line after a mark. `OutOfMemory` if an allocation fails.
 pub fn put_end<P: Progress>(
-    page: &mut Page,
+    page: &mut TextBuffer,
     findings: &Findings<'_, P>,
     mark: &str,
     kind: &KindOfEnd<'_>,
@@ -126,7 +131,7 @@ pub fn put_end<P: Progress>(
 /// Appends users that are stuck from one state on, after a mark. `OutOfMemory` if an allocation
 /// fails.
 pub fn put_stuck<P: Progress>(
-    page: &mut Page,
+    page: &mut TextBuffer,
     findings: &Findings<'_, P>,
     mark: &str,
     number: usize,
@@ -151,7 +156,7 @@ pub fn put_stuck<P: Progress>(
 }
 
 /// Appends the result of a question.
-fn put_outcome(page: &mut Page, judged: &Judged<'_>, is_whole: bool) {
+fn put_outcome(page: &mut TextBuffer, judged: &Judged<'_>, is_whole: bool) {
     match judged.outcome {
         Outcome::Holds | Outcome::HoldsSince(_) => {
             page.put(b"holds");
@@ -170,7 +175,7 @@ fn put_outcome(page: &mut Page, judged: &Judged<'_>, is_whole: bool) {
 }
 
 /// Appends a question and the number of its line.
-pub fn put_asked(page: &mut Page, line: &AskedLine) {
+pub fn put_asked(page: &mut TextBuffer, line: &AskedLine) {
     page.put(b"question at line ");
     page.number(line.line);
     page.put(b": ");
@@ -179,7 +184,7 @@ pub fn put_asked(page: &mut Page, line: &AskedLine) {
 
 /// Appends a question and its result, after a mark. `OutOfMemory` if an allocation fails.
 pub fn put_question<P: Progress>(
-    page: &mut Page,
+    page: &mut TextBuffer,
     findings: &Findings<'_, P>,
     mark: &str,
     judged: &Judged<'_>,
@@ -198,7 +203,7 @@ pub fn put_question<P: Progress>(
 }
 
 /// Appends an answer of an entry as a comment.
-pub fn put_answer(page: &mut Page, names: &Names, event: Event, answer: &Answered) {
+pub fn put_answer(page: &mut TextBuffer, names: &Labels, event: Event, answer: &Answered) {
     page.put(b"# answer of ");
     page.object(names, event.thread);
     page.put(b" ");
@@ -209,7 +214,7 @@ pub fn put_answer(page: &mut Page, names: &Names, event: Event, answer: &Answere
 }
 
 /// Appends an entry with its text in the script.
-pub fn put_event(page: &mut Page, script: &UserScript, event: Event) {
+pub fn put_event(page: &mut TextBuffer, script: &UserScript, event: Event) {
     page.object(&script.names, event.thread);
     page.put(b" ");
     page.count(event.number);
@@ -218,7 +223,11 @@ pub fn put_event(page: &mut Page, script: &UserScript, event: Event) {
 }
 
 /// Appends an entry with its text in the script, and its answers.
-fn put_entry<P: Progress>(page: &mut Page, findings: &Findings<'_, P>, entry: &AnsweredEntry) {
+fn put_entry<P: Progress>(
+    page: &mut TextBuffer,
+    findings: &Findings<'_, P>,
+    entry: &AnsweredEntry,
+) {
     put_event(page, findings.script, entry.event);
     page.put(b" ->");
     let mut between = " ";
@@ -236,7 +245,7 @@ fn put_entry<P: Progress>(page: &mut Page, findings: &Findings<'_, P>, entry: &A
 }
 
 /// Appends a clause of the verdict, after a semicolon unless it is the first.
-fn put_clause(page: &mut Page, is_first: bool, text: &str) {
+fn put_clause(page: &mut TextBuffer, is_first: bool, text: &str) {
     if !is_first {
         page.put(b"; ");
     }
@@ -245,7 +254,7 @@ fn put_clause(page: &mut Page, is_first: bool, text: &str) {
 
 /// Appends the questions with this result, a clause for each.
 fn put_lines<P: Progress>(
-    page: &mut Page,
+    page: &mut TextBuffer,
     report: &Report<'_, P>,
     outcome: Outcome,
     is_first: bool,
@@ -263,7 +272,7 @@ fn put_lines<P: Progress>(
 }
 
 /// Appends the threads of all stuck users, in the order of the users.
-fn put_stuck_threads<P: Progress>(page: &mut Page, findings: &Findings<'_, P>) {
+fn put_stuck_threads<P: Progress>(page: &mut TextBuffer, findings: &Findings<'_, P>) {
     for (user, list) in findings.script.users.lists().iter().enumerate() {
         if findings.is_stuck(user) {
             page.put(b" ");
@@ -273,7 +282,7 @@ fn put_stuck_threads<P: Progress>(page: &mut Page, findings: &Findings<'_, P>) {
 }
 
 /// Appends the verdict if something fails.
-fn put_failure<P: Progress>(page: &mut Page, report: &Report<'_, P>) {
+fn put_failure<P: Progress>(page: &mut TextBuffer, report: &Report<'_, P>) {
     page.put(b"FAILS: ");
     let mut is_first = true;
     if report.findings.has_ending(Ending::Deadlock) {
@@ -293,7 +302,7 @@ fn put_failure<P: Progress>(page: &mut Page, report: &Report<'_, P>) {
 }
 
 /// Appends how many of the questions hold, if there are any.
-fn put_counts<P: Progress>(page: &mut Page, report: &Report<'_, P>, end: &str) {
+fn put_counts<P: Progress>(page: &mut TextBuffer, report: &Report<'_, P>, end: &str) {
     if !report.judged.is_empty() {
         page.put(b"; ");
         page.count(report.count_held());
@@ -305,7 +314,7 @@ fn put_counts<P: Progress>(page: &mut Page, report: &Report<'_, P>, end: &str) {
 }
 
 /// Appends the verdict, without a newline.
-pub fn put_verdict<P: Progress>(page: &mut Page, report: &Report<'_, P>) {
+pub fn put_verdict<P: Progress>(page: &mut TextBuffer, report: &Report<'_, P>) {
     match report.explored() {
         Explored::Fails => put_failure(page, report),
         Explored::Holds => {
@@ -322,7 +331,7 @@ pub fn put_verdict<P: Progress>(page: &mut Page, report: &Report<'_, P>) {
 
 /// Appends all kinds of ends that are all done, or all others.
 fn put_ends<P: Progress>(
-    page: &mut Page,
+    page: &mut TextBuffer,
     findings: &Findings<'_, P>,
     wanted: bool,
 ) -> Result<(), LabFault> {
@@ -339,7 +348,10 @@ fn put_ends<P: Progress>(
 }
 
 /// Appends all users that are stuck.
-fn put_all_stuck<P: Progress>(page: &mut Page, findings: &Findings<'_, P>) -> Result<(), LabFault> {
+fn put_all_stuck<P: Progress>(
+    page: &mut TextBuffer,
+    findings: &Findings<'_, P>,
+) -> Result<(), LabFault> {
     for (index, stuck) in findings.stuck.iter().enumerate() {
         put_stuck(page, findings, "", index.saturating_add(1), stuck)?;
     }
@@ -348,7 +360,7 @@ fn put_all_stuck<P: Progress>(page: &mut Page, findings: &Findings<'_, P>) -> Re
 
 /// Appends all questions that hold, or all others.
 fn put_questions<P: Progress>(
-    page: &mut Page,
+    page: &mut TextBuffer,
     report: &Report<'_, P>,
     wanted: bool,
 ) -> Result<(), LabFault> {
@@ -361,7 +373,7 @@ fn put_questions<P: Progress>(
 }
 
 /// Appends all entries, in the order of users and entries.
-fn put_entries<P: Progress>(page: &mut Page, report: &Report<'_, P>) {
+fn put_entries<P: Progress>(page: &mut TextBuffer, report: &Report<'_, P>) {
     for entry in report.entries.iter() {
         put_entry(page, &report.findings, entry);
     }
@@ -372,7 +384,7 @@ pub fn write_text<P: Progress, W: Write>(
     to: &mut W,
     report: &Report<'_, P>,
 ) -> Result<(), LabFault> {
-    let mut page = Page::new(report.findings.alloc)?;
+    let mut page = TextBuffer::new(report.findings.alloc)?;
     put_head(&mut page, report);
     put_ends(&mut page, &report.findings, false)?;
     put_all_stuck(&mut page, &report.findings)?;

@@ -2,7 +2,7 @@
 ghost use Rattle.std.specs.Prelude.{◌≡◌, ◌↔◌, IsTrue, IfOk, is_none, is_some};
 ghost use Rattle.mcs_explore_report.specs.Verdicts.{IsAlways, IsEndSearched, IsSearched, IsVerdict, answers_of, failed_at, is_said, lacks, lacks_one};
 
-use crate::answers::{Answers, Told};
+use crate::answers::{Answers, Witness};
 use crate::ends::{End, Standing};
 use crate::judging::Sighting;
 use crate::saying::text_of;
@@ -20,32 +20,32 @@ pub struct Verdict {
     pub seen: Option<Sighting>,
 }
 
-/// Returns whether matching a pattern with an answer gives the wanted result.
+/// Returns whether a pattern matches an answer, or does not match it, as the question asks.
 fn is_wanted(
     alloc: Global,
     line: &mut Line,
-    told: &Told,
+    witness: &Witness,
     pattern: &[u8],
     wanted: bool,
 ) -> Result<bool, LabFault>
-    ensures { IfOk result (λ b. IsTrue b ↔ (is_said pattern.now told.now.answer ≡ wanted)) }
+    ensures { IfOk result (λ b. IsTrue b ↔ (is_said pattern.now witness.now.answer ≡ wanted)) }
 {
-    let text = text_of(alloc, line, &told.answer)?;
+    let text = text_of(alloc, line, &witness.answer)?;
     Ok(is_match(pattern, &text) == wanted)
 }
 
-/// Returns where the first answer was found for which matching gives the wanted result.
+/// Returns where the first answer was found that matches, or does not match, as the question asks.
 fn find_answer(
     alloc: Global,
     line: &mut Line,
-    told: &[Told],
+    witnesses: &[Witness],
     pattern: &[u8],
     wanted: bool,
 ) -> Result<Option<Sighting>, LabFault>
-    ensures { IfOk result (λ o. IsSearched told.now pattern.now wanted o) }
+    ensures { IfOk result (λ o. IsSearched witnesses.now pattern.now wanted o) }
 {
-    for index in 0..told.len() {
-        let one = &told[index];
+    for index in 0..witnesses.len() {
+        let one = &witnesses[index];
         if is_wanted(alloc, line, one, pattern, wanted)? {
             return Ok(Some(Sighting {
                 place: one.place,
@@ -87,7 +87,7 @@ fn find_end(kinds: &[End], event: Event) -> Option<Sighting>
 }
 
 /// The answers of an entry.
-fn answers_of<'a>(users: &Users, answers: &'a Answers, event: Event) -> &'a [Told]
+fn answers_of<'a>(users: &Users, answers: &'a Answers, event: Event) -> &'a [Witness]
     ensures { result.now ≡ answers_of users.now answers.entry.now event }
 {
     match users.find(event.thread) {
@@ -117,7 +117,7 @@ fn all_are(found: Option<Sighting>) -> Verdict
     }
 }
 
-/// Returns the verdict if some answer has to match, by the first that does.
+/// Returns the verdict on a question that one answer must match, by where the first match is.
 fn some_is(found: Option<Sighting>) -> Verdict
     ensures holds { result.holds ≡ is_some result.seen }
     ensures seen { result.seen ≡ found }
@@ -134,14 +134,14 @@ fn some_is(found: Option<Sighting>) -> Verdict
 fn find_failure(
     alloc: Global,
     line: &mut Line,
-    told: &[Told],
+    witnesses: &[Witness],
     pattern: &[u8],
     kinds: &[End],
     event: Event,
 ) -> Result<Option<Sighting>, LabFault>
-    ensures { IfOk result (λ o. IsAlways told.now pattern.now kinds.now event o) }
+    ensures { IfOk result (λ o. IsAlways witnesses.now pattern.now kinds.now event o) }
 {
-    match find_answer(alloc, line, told, pattern, false)? {
+    match find_answer(alloc, line, witnesses, pattern, false)? {
         Some(seen) => Ok(Some(seen)),
         None => Ok(find_end(kinds, event)),
     }
@@ -159,7 +159,7 @@ pub struct Grounds<'a> {
 }
 
 /// Returns the verdict on a question with this number. `line` is a buffer for the text of an
-/// answer; `stuck` is the first state from which the question's user cannot go on, if it asks that.
+/// answer; `stuck` is the first state in which the question's user is stuck, if it asks that.
 /// `OutOfMemory` if an allocation fails.
 pub fn verdict_on(
     alloc: Global,
@@ -177,17 +177,17 @@ pub fn verdict_on(
         Asked::Idle { .. } | Asked::Again { .. } | Asked::Ruled { .. } => Ok(all_are(None)),
         Asked::Live { .. } => Ok(all_are(stuck)),
         Asked::Answer { event, pattern } => {
-            let told = answers_of(grounds.users, grounds.answers, *event);
-            let failure = find_failure(alloc, line, told, pattern, grounds.ends, *event)?;
+            let witnesses = answers_of(grounds.users, grounds.answers, *event);
+            let failure = find_failure(alloc, line, witnesses, pattern, grounds.ends, *event)?;
             Ok(all_are(failure))
         }
         Asked::AnswerIf { event, pattern } => {
-            let told = answers_of(grounds.users, grounds.answers, *event);
-            Ok(all_are(find_answer(alloc, line, told, pattern, false)?))
+            let witnesses = answers_of(grounds.users, grounds.answers, *event);
+            Ok(all_are(find_answer(alloc, line, witnesses, pattern, false)?))
         }
         Asked::Some { event, pattern } => {
-            let told = answers_of(grounds.users, grounds.answers, *event);
-            Ok(some_is(find_answer(alloc, line, told, pattern, true)?))
+            let witnesses = answers_of(grounds.users, grounds.answers, *event);
+            Ok(some_is(find_answer(alloc, line, witnesses, pattern, true)?))
         }
         Asked::Never { .. } | Asked::Apart { .. } | Asked::Before { .. } => {
             Ok(all_are(failed_at(grounds.failed, number)))

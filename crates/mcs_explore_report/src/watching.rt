@@ -30,7 +30,7 @@ pub trait Progress: Drop {
     /// Receives that one more state was expanded, after `before` others; `depth` turns lead to it.
     fn looked(&mut self, before: usize, depth: usize);
 
-    /// Returns why the search stops now; None if it goes on.
+    /// Returns why the search stops now; None if it continues.
     fn stop(&self) -> Option<Stop> {
         None
     }

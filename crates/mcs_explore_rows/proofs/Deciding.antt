@@ -39,7 +39,7 @@ use Rattle.mcs_explore_equivalence.proofs.Alikes.{picks-there}
 use Rattle.mcs_explore_rows.specs.Numbers.{one, flag_number, option_numbers, list_numbers, below, id_numbers, cap_numbers, row_numbers, letter_numbers}
 use Rattle.mcs_explore_rows.specs.Rows.{cnode_numbers, cnode_rows, head_numbers, sent_kept, object_at, core_numbers, kind_numbers, object_numbers, count_numbers, rows_of_kind, object_rows, position_numbers, pick_numbers, HaveSameRows, rows_of, slots_numbers}
 use Rattle.mcs_explore_rows.proofs.Slots.{SameSlots, runs-slots}
-use Rattle.mcs_explore_rows.proofs.Telling.{parted, Tells, one-told, flag-told, option-told, list-told, below-told, row-told, id-told, cap-told, thread-told, letter-told}
+use Rattle.mcs_explore_rows.proofs.Telling.{parted, Tells, one-decoded, flag-decoded, option-decoded, list-decoded, below-decoded, row-decoded, id-decoded, cap-decoded, thread-decoded, letter-decoded}
 
 -- a message as a key has it: without its number, where the numbers of messages are not
 -- distinguished
@@ -53,29 +53,29 @@ letters-as false None = refl
 letters-as true (Some s) = refl
 letters-as false (Some s) = refl
 
--- whole rows tell what they are of, with nothing after them
+-- whole rows determine what they encode, with nothing after them
 alone : {A E : Type 0} (f : A → List E) → Tells f → (a b : A) → f a ≡ f b → a ≡ b
 alone f t a b h = (t a b [] [] (ap (λ l. l ++ []) h)).0
 
 -- two that are one after the other
-two-told : {A B : Type 0} (f : A → List ℕ) (g : B → List ℕ) → Tells f → Tells g → (a b : A) (c d : B) → f a ++ g c ≡ f b ++ g d → (a ≡ b) × (c ≡ d)
-two-told f g t u a b c d h = let p = t a b (g c) (g d) h in (p.0, alone g u c d p.1)
+two-decoded : {A B : Type 0} (f : A → List ℕ) (g : B → List ℕ) → Tells f → Tells g → (a b : A) (c d : B) → f a ++ g c ≡ f b ++ g d → (a ≡ b) × (c ≡ d)
+two-decoded f g t u a b c d h = let p = t a b (g c) (g d) h in (p.0, alone g u c d p.1)
 
-core-told : Tells core_numbers
-core-told a b x y h = let p = parted _ _ _ _ h in (ap (λ n. record { 0 = n }) p.0, p.1)
+core-decoded : Tells core_numbers
+core-decoded a b x y h = let p = parted _ _ _ _ h in (ap (λ n. record { 0 = n }) p.0, p.1)
 
-position-told : Tells position_numbers
-position-told a b x y h =
+position-decoded : Tells position_numbers
+position-decoded a b x y h =
     let nexts = parted a.next b.next _ _ h in
     let firsts = parted a.saved.a b.saved.a _ _ nexts.1 in
     let seconds = parted a.saved.b b.saved.b _ _ firsts.1 in
     let thirds = parted a.saved.c b.saved.c _ _ seconds.1 in
     let fourths = parted a.saved.d b.saved.d _ _ thirds.1 in
-    let waits = option-told one one-told a.waited b.waited x y fourths.1 in
+    let waits = option-decoded one one-decoded a.waited b.waited x y fourths.1 in
     (λ i. record { next = nexts.0 i; waited = waits.0 i; saved = record { a = firsts.0 i; b = seconds.0 i; c = thirds.0 i; d = fourths.0 i } }, waits.1)
 
-pick-told : Tells pick_numbers
-pick-told a b x y h =
+pick-decoded : Tells pick_numbers
+pick-decoded a b x y h =
     let users = parted _ _ _ _ h in
     let numbers = parted _ _ _ _ users.1 in
     (ap (λ n. record { user = n; number = a.number }) users.0 ∙ ap (λ n. record { user = b.user; number = n }) numbers.0, numbers.1)
@@ -91,17 +91,17 @@ same-places (x ∷ xs) (y ∷ ys) e h =
     let shorter : length xs ≡ length ys = omega (arith, e) in
     ap (λ z. z ∷ xs) is ∙ ap (λ zs. y ∷ zs) (same-places xs ys shorter (λ i k. h (suc i) (omega (arith, k))))
 
--- the rows of all objects of a kind tell those of each
+-- the rows of all objects of a kind determine those of each
 kind-rows : (changing numbered : Bool) (R S : Log) (k : Kind) → counted (makes_kind k) R ≡ counted (makes_kind k) S → (x y : List (List ℕ)) → rows_of_kind changing numbered R k ++ x ≡ rows_of_kind changing numbered S k ++ y
     → ((i : ℕ) → i < counted (makes_kind k) R → object_numbers changing numbered R (object_at k i) ≡ object_numbers changing numbered S (object_at k i)) × (x ≡ y)
 kind-rows changing numbered R S k e x y h =
-    below-told (λ r. r ∷ []) row-told (λ i. object_numbers changing numbered R (object_at k i)) (λ i. object_numbers changing numbered S (object_at k i)) (counted (makes_kind k) R) x y
+    below-decoded (λ r. r ∷ []) row-decoded (λ i. object_numbers changing numbered R (object_at k i)) (λ i. object_numbers changing numbered S (object_at k i)) (counted (makes_kind k) R) x y
     (h ∙ ap (λ n. below (λ i. object_numbers changing numbered S (object_at k i) ∷ []) n ++ y) (sym e))
 
--- slots tell each of them
-slots-told : (R S : Log) (c : ObjId) (n : ℕ) → slots_numbers R c n ≡ slots_numbers S c n → (i : ℕ) → i < n → slot R c i ≡ slot S c i
+-- the rows of slots determine each of them
+slots-decoded : (R S : Log) (c : ObjId) (n : ℕ) → slots_numbers R c n ≡ slots_numbers S c n → (i : ℕ) → i < n → slot R c i ≡ slot S c i
 unfolding slots_numbers
-slots-told R S c n h = (below-told (option_numbers cap_numbers) (option-told cap_numbers cap-told) (slot R c) (slot S c) n [] [] (ap (λ l. l ++ []) h)).0
+slots-decoded R S c n h = (below-decoded (option_numbers cap_numbers) (option-decoded cap_numbers cap-decoded) (slot R c) (slot S c) n [] [] (ap (λ l. l ++ []) h)).0
 
 -- two logs with as many objects, whose whole rows are equal
 record SameRows (numbered : Bool) (R S : Log) : Type 0 where
@@ -142,7 +142,8 @@ each-kind P a b c d e f kind.Notification = d
 each-kind P a b c d e f kind.Reply = e
 each-kind P a b c d e f kind.Context = f
 
--- the CNodes have the same rows, as these tell or since slots stay, and so have the others
+-- the CNodes have the same rows, by these rows or since no slot changes, and so have the other
+-- objects
 record SameCNodes (numbered : Bool) (R S : Log) (x y : List (List ℕ)) : Type 0 where
   pub rows : (i : ℕ) → i < counted (makes_kind kind.CNode) R → object_numbers true numbered R (object_at kind.CNode i) ≡ object_numbers true numbered S (object_at kind.CNode i)
   pub others : x ≡ y
@@ -192,7 +193,7 @@ same-object numbered R S sound same o made =
     let is : object_numbers true numbered R o ≡ object_numbers true numbered S o = subst (λ x. object_numbers true numbered R x ≡ object_numbers true numbered S x) at (same.rows o.kind (o.serial - 1) (low (made-serial R o sound made))) in
     let flags = parted _ _ _ _ is in
     let counts = parted _ _ _ _ flags.1 in
-    record { there = flag-told (is_alive R o) (is_alive S o) flags.0; held = counts.0; rest = counts.1 }
+    record { there = flag-decoded (is_alive R o) (is_alive S o) flags.0; held = counts.0; rest = counts.1 }
   where
     back : 1 ≤ o.serial → o.serial - 1 + 1 ≡ o.serial
     back h = omega (arith, h)
@@ -205,14 +206,14 @@ module _ (numbered : Bool) (R S : Log) (sound : Sound R) (same : SameRows number
   rest k o is = subst (λ j. kind_numbers numbered R j o ≡ kind_numbers numbered S j o) is.0 (same-object numbered R S sound same o is.1).rest
 
   thread : (t : ObjId) → IsMade R kind.Thread t → (row_said R t ≡ row_said S t) × (option_map (letter_kept numbered) (open_of R t) ≡ option_map (letter_kept numbered) (open_of S t))
-  thread t is = two-told (option_numbers row_numbers) (option_numbers (letter_numbers true)) (option-told row_numbers thread-told) (option-told (letter_numbers true) letter-told) _ _ _ _
+  thread t is = two-decoded (option_numbers row_numbers) (option_numbers (letter_numbers true)) (option-decoded row_numbers thread-decoded) (option-decoded (letter_numbers true) letter-decoded) _ _ _ _
       (ap (λ l. option_numbers row_numbers (row_said R t) ++ l) (sym (letters-as numbered (open_of R t))) ∙ rest kind.Thread t is ∙ ap (λ l. option_numbers row_numbers (row_said S t) ++ l) (letters-as numbered (open_of S t)))
 
   endpoint : (e : ObjId) → IsMade R kind.Endpoint e → (queued_in R (Senders e) ≡ queued_in S (Senders e)) × (queued_in R (Receivers e) ≡ queued_in S (Receivers e))
-  endpoint e is = two-told (list_numbers id_numbers) (list_numbers id_numbers) (list-told id_numbers id-told) (list-told id_numbers id-told) _ _ _ _ (rest kind.Endpoint e is)
+  endpoint e is = two-decoded (list_numbers id_numbers) (list_numbers id_numbers) (list-decoded id_numbers id-decoded) (list-decoded id_numbers id-decoded) _ _ _ _ (rest kind.Endpoint e is)
 
   notification : (n : ObjId) → IsMade R kind.Notification n → (queued_in R (Waiters n) ≡ queued_in S (Waiters n)) × (word_of R n ≡ word_of S n)
-  notification n is = two-told (list_numbers id_numbers) (option_numbers one) (list-told id_numbers id-told) (option-told one one-told) _ _ _ _ (rest kind.Notification n is)
+  notification n is = two-decoded (list_numbers id_numbers) (option_numbers one) (list-decoded id_numbers id-decoded) (option-decoded one one-decoded) _ _ _ _ (rest kind.Notification n is)
 
   -- a context
   record SameContext (s : ObjId) : Type 0 where
@@ -223,15 +224,15 @@ module _ (numbered : Bool) (R S : Log) (sound : Sound R) (same : SameRows number
 
   context : (s : ObjId) → IsMade R kind.Context s → SameContext s
   context s is =
-      let cores = option-told core_numbers core-told (core_said R s) (core_said S s) _ _ (rest kind.Context s is) in
-      let holders = option-told id_numbers id-told (holder_of R s) (holder_of S s) _ _ cores.1 in
-      let others = two-told (option_numbers id_numbers) (list_numbers id_numbers) (option-told id_numbers id-told) (list-told id_numbers id-told) (home_of R s) (home_of S s) (chain_of R s) (chain_of S s) holders.1 in
+      let cores = option-decoded core_numbers core-decoded (core_said R s) (core_said S s) _ _ (rest kind.Context s is) in
+      let holders = option-decoded id_numbers id-decoded (holder_of R s) (holder_of S s) _ _ cores.1 in
+      let others = two-decoded (option_numbers id_numbers) (list_numbers id_numbers) (option-decoded id_numbers id-decoded) (list-decoded id_numbers id-decoded) (home_of R s) (home_of S s) (chain_of R s) (chain_of S s) holders.1 in
       record { core = cores.0; holder = holders.0; home = others.0; chain = others.1 }
 
   cnode : (c : ObjId) → IsMade R kind.CNode c → (radix_kept (form_of R c) ≡ radix_kept (form_of S c)) × ((i : ℕ) → i < 256 → slot R c i ≡ slot S c i)
   cnode c is =
       let radix = parted _ _ _ _ (rest kind.CNode c is) in
-      (radix.0, slots-told R S c 256 radix.1)
+      (radix.0, slots-decoded R S c 256 radix.1)
 
   -- without its number a message is the same
   numberless : (o : Option Letter) → option_map unnumbered (option_map (letter_kept numbered) o) ≡ option_map unnumbered o
@@ -253,7 +254,7 @@ module _ (numbered : Bool) (R S : Log) (sound : Sound R) (same : SameRows number
     receivers = λ e is. (endpoint e is).1;
     waiters = λ n is. (notification n is).0;
     words = λ n is. (notification n is).1;
-    owed = λ r is. alone (option_numbers id_numbers) (option-told id_numbers id-told) (owed_by R r) (owed_by S r) (rest kind.Reply r is);
+    owed = λ r is. alone (option_numbers id_numbers) (option-decoded id_numbers id-decoded) (owed_by R r) (owed_by S r) (rest kind.Reply r is);
     cores = λ s is. (context s is).core;
     holders = λ s is. (context s is).holder;
     homes = λ s is. (context s is).home;
@@ -296,11 +297,11 @@ logs-by : (numbered : Bool) (R S : Log) → Sound R → Sound S → SameRows num
 logs-by true R S left right same = answers-exact R S left right (answer-exact R S left same)
 logs-by false R S left right same = answers-alike R S left right (answer-all R S left right (answer false R S left same))
 
--- lists of one length, of which each place is told, are equal
-same-told : {A : Type 0} (f : A → List ℕ) → Tells f → (xs ys : List A) (n : ℕ) → length xs ≡ n → length ys ≡ n
+-- lists of one length that agree in each place are equal
+same-decoded : {A : Type 0} (f : A → List ℕ) → Tells f → (xs ys : List A) (n : ℕ) → length xs ≡ n → length ys ≡ n
     → ((i : ℕ) → i < n → option_numbers f (slice_get xs i) ≡ option_numbers f (slice_get ys i)) → xs ≡ ys
-same-told f t xs ys n left right is =
-    same-places xs ys (left ∙ sym right) (λ i k. alone (option_numbers f) (option-told f t) (slice_get xs i) (slice_get ys i) (is i (subst (λ m. i < m) left k)))
+same-decoded f t xs ys n left right is =
+    same-places xs ys (left ∙ sym right) (λ i k. alone (option_numbers f) (option-decoded f t) (slice_get xs i) (slice_get ys i) (is i (subst (λ m. i < m) left k)))
 
 -- the parts of equal rows
 record SameParts (numbered : Bool) (users : List User) (g h : Going) (ks js : List (List Pick)) : Type 0 where
@@ -313,8 +314,8 @@ record SameParts (numbered : Bool) (users : List User) (g h : Going) (ks js : Li
 same-parts : (numbered : Bool) (users : List User) (g h : Going) (ks js : List (List Pick)) → g.book.boot.cores ≡ h.book.boot.cores → rows_of numbered users g ks ≡ rows_of numbered users h js → SameParts numbered users g h ks js
 same-parts numbered users g h ks js cores rows =
     let counts = parted _ _ _ _ rows in
-    let places = below-told (λ r. r ∷ []) row-told (λ i. option_numbers position_numbers (slice_get g.places i)) (λ i. option_numbers position_numbers (slice_get h.places i)) (length users) _ _ counts.1 in
-    let entered = below-told (λ r. r ∷ []) row-told (λ i. option_numbers (list_numbers pick_numbers) (slice_get (choices ks g.stale) i)) (λ i. option_numbers (list_numbers pick_numbers) (slice_get (choices js h.stale) i))
+    let places = below-decoded (λ r. r ∷ []) row-decoded (λ i. option_numbers position_numbers (slice_get g.places i)) (λ i. option_numbers position_numbers (slice_get h.places i)) (length users) _ _ counts.1 in
+    let entered = below-decoded (λ r. r ∷ []) row-decoded (λ i. option_numbers (list_numbers pick_numbers) (slice_get (choices ks g.stale) i)) (λ i. option_numbers (list_numbers pick_numbers) (slice_get (choices js h.stale) i))
     g.book.boot.cores _ (object_rows (change_slots users) numbered (log_of h.book))
     (places.1 ∙ ap (λ n. below (λ i. option_numbers (list_numbers pick_numbers) (slice_get (choices js h.stale) i) ∷ []) n ++ object_rows (change_slots users) numbered (log_of h.book)) (sym cores)) in
     record { counts = counts.0; places = places.0; choices = entered.0; objects = entered.1 }
@@ -342,7 +343,7 @@ module _ (numbered : Bool) (users : List User) (boot : Boot) (whole : IsFaultles
         left = left;
         right = right;
         logs = logs-by numbered (log_of g.book) (log_of h.book) one_sound other_sound same;
-        places = same-told position_numbers position-told g.places h.places (length users) long.places wide.places some.places;
+        places = same-decoded position_numbers position-decoded g.places h.places (length users) long.places wide.places some.places;
       }
 
   same-choices : (ks : List (List Pick)) → ArePicks users g ks → choices ks g.stale ≡ choices ks h.stale
@@ -350,7 +351,7 @@ module _ (numbered : Bool) (users : List User) (boot : Boot) (whole : IsFaultles
       let long = run-long users boot left.turns g left.run in
       let wide = run-long users boot right.turns h right.run in
       let both = parts ks ks are (picks-there numbered users boot g h close ks are) in
-      same-told (list_numbers pick_numbers) (list-told pick_numbers pick-told) (choices ks g.stale) (choices ks h.stale) boot.cores (length-choices ks g.stale ∙ long.stale) (length-choices ks h.stale ∙ wide.stale)
+      same-decoded (list_numbers pick_numbers) (list-decoded pick_numbers pick-decoded) (choices ks g.stale) (choices ks h.stale) boot.cores (length-choices ks g.stale ∙ long.stale) (length-choices ks h.stale ∙ wide.stale)
       (λ i low. both.choices i (subst (λ (b : Boot). i < b.cores) (sym long.kept) low))
 
 pub rows-alike : (numbered : Bool) (users : List User) (boot : Boot) → IsFaultless boot → AreInRange users → (g h : Going) → IsReached users boot g → IsReached users boot h → HaveSameRows numbered users g h → AreAlike numbered users boot g h

@@ -27,7 +27,7 @@ get-longer (z ∷ zs) ys (suc n) x h = get-longer zs ys n x h
 pub keeps-longer : (old more : List (List ℕ)) → Keeps old (old ++ more)
 keeps-longer old more n r h = get-longer old more n r h
 
--- numbers name the same rows when more were met
+-- numbers name the same rows when more were interned
 pub names-kept : (old new : List (List ℕ)) (ns : List ℕ) (rows : List (List ℕ)) → Keeps old new → Names old ns rows → Names new ns rows
 names-kept old new [] [] k h = refl
 names-kept old new [] (r ∷ rs) k h = absurd cc
@@ -60,7 +60,7 @@ names-one met ns rows others h k = somes rows others (sym h ∙ k)
         let rest : map (λ (z : List ℕ). Some z) xs ≡ map (λ (z : List ℕ). Some z) ys = cc in
         ap (λ z. z ∷ xs) first ∙ ap (λ zs. y ∷ zs) (somes xs ys rest)
 
--- a key stays one when more rows were met
+-- a key stays a key when more rows were interned
 pub key-kept : (numbered : Bool) (old new : List (List ℕ)) (users : List User) (g : Going) (bytes : List ℕ) → Keeps old new → IsKey numbered old users g bytes → IsKey numbered new users g bytes
 key-kept numbered old new users g bytes k is = record {
   numbers = is.numbers;
@@ -85,7 +85,7 @@ key-one numbered met users g h bytes a b = record {
   };
 }
 
--- the numbers of a row that was met
+-- the numbers of an interned row
 abbrev pub row_items : Hashed → List ℕ
 row_items h = h.row.items
 
@@ -109,7 +109,7 @@ pub ok-at : {E : Type 0} (r : Result ℕ E) (rows : List (List ℕ)) (row : List
 ok-at (Ok n) rows row m same at = ap (λ i. slice_get rows i) same ∙ at
 ok-at (Err e) rows row m same at = same
 
--- a set keeps its rows as one more is met
+-- a set keeps its rows as one more is interned
 pub still : {A : Type 0} (f : A → List ℕ) (eq : A → A → Bool) (old new : List A) (k : A) → new ≡ insert_key eq old k → Keeps (map f old) (map f new)
 still f eq old new k e = λ n r h. go (list_any (eq k) old) n r (ap (λ ks. slice_get (map f ks) n) e) h
   where
@@ -117,7 +117,7 @@ still f eq old new k e = λ n r h. go (list_any (eq k) old) n r (ap (λ ks. slic
     go true n r g h = g ∙ h
     go false n r g h = g ∙ ap (λ rs. slice_get rs n) (map-append f old (k ∷ [])) ∙ get-longer (map f old) (map f (k ∷ [])) n r h
 
--- what is said below one number more
+-- what holds below one number more
 pub below-next : {A : Type 0} (f : ℕ → List A) (n : ℕ) → below f (n + 1) ≡ below f n ++ f n
 below-next f n = ap (below f) (up n)
   where

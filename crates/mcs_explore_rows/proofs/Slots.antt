@@ -1,4 +1,4 @@
--- A run of users who change no slots leaves the CNodes as the boot made them.
+-- A run of users that change no slots leaves the CNodes as the boot made them.
 use Rattle.std.specs.Prelude.{ℕ, zero, suc, Bool, true, false, ◌≡◌, ◌||◌, List, [], ◌∷◌, Some, slice_get}
 use Rattle.std.specs.List.{list_any}
 use Rattle.std.proofs.Common.{refl, sym, ◌∙◌, subst}

@@ -36,7 +36,7 @@ each_numbers f (x ∷ xs) = (1 ∷ f x) ++ each_numbers f xs
 abbrev pub list_numbers : {A : Type 0} → (A → List ℕ) → List A → List ℕ
 list_numbers f xs = each_numbers f xs ++ (0 ∷ [])
 
--- what f says of each number below n, in order
+-- the values of f for each number below n, in order
 abbrev pub below : {A : Type 0} → (ℕ → List A) → ℕ → List A
 below f zero = []
 below f (suc n) = below f n ++ f n

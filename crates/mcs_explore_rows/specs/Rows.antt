@@ -66,7 +66,7 @@ thread_numbers numbered R t = option_numbers row_numbers (row_said R t) ++ optio
 abbrev pub notification_numbers : Log → ObjId → List ℕ
 notification_numbers R n = list_numbers id_numbers (queued_in R (Waiters n)) ++ option_numbers one (word_of R n)
 
--- the caller that a reply object owes
+-- the numbers of the caller that a reply object owes a reply
 abbrev pub reply_numbers : Log → ObjId → List ℕ
 reply_numbers R r = option_numbers id_numbers (owed_by R r)
 
@@ -103,7 +103,7 @@ abbrev pub cnode_rows : Bool → Bool → Log → List (List ℕ)
 cnode_rows true numbered R = rows_of_kind true numbered R kind.CNode
 cnode_rows false numbered R = []
 
--- the rows of all objects, those of CNodes only where users change slots
+-- the rows of all objects; those of CNodes only if users change slots
 abbrev pub object_rows : Bool → Bool → Log → List (List ℕ)
 object_rows changing numbered R = cnode_rows changing numbered R ++ (rows_of_kind changing numbered R kind.Thread ++ (rows_of_kind changing numbered R kind.Endpoint
     ++ (rows_of_kind changing numbered R kind.Notification ++ (rows_of_kind changing numbered R kind.Reply ++ rows_of_kind changing numbered R kind.Context))))
@@ -143,7 +143,7 @@ pub record OfPicks (users : List User) (g : Going) (IsSo : List (List Pick) → 
 abbrev pub HaveSameRows : Bool → List User → Going → Going → Type 0
 HaveSameRows numbered users g h = OfPicks users g (λ ks. OfPicks users h (λ js. rows_of numbered users g ks ≡ rows_of numbered users h js))
 
--- the numbers name the rows of a state, among those that were met
+-- the numbers name the rows of a state, among the interned ones
 abbrev pub NameRows : Bool → List (List ℕ) → List User → Going → List ℕ → Type 0
 NameRows numbered met users g numbers = OfPicks users g (λ ks. Names met numbers (rows_of numbered users g ks))
 

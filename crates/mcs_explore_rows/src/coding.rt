@@ -8,7 +8,7 @@ use std::alloc::{AllocError, Global};
 /// numbers mean equal rows.
 pub type Key = Vec<u8>;
 
-/// Returns how many bytes encode a number.
+/// Returns how many bytes the code of a number has.
 fn length(number: u32) -> usize {
     if number < 192 {
         1

@@ -1,5 +1,5 @@
-//! The exact rows of a state: if those of two states are equal, no later turn can tell the states
-//! apart.
+//! The exact rows of a state: if those of two states are equal, no later turn can distinguish the
+//! states.
 ghost use Rattle.std.specs.Prelude.{ℕ, List, ◌≡◌, ◌+◌, ◌++◌, ◌∷◌, [], IfOk, OnOk, option_copied, map, slice_get};
 ghost use Rattle.mcs_book.specs.History.{log_of};
 ghost use Rattle.mcs_book.specs.Queues.{queued_in};
@@ -10,7 +10,7 @@ ghost use Rattle.mcs_explore_rows.specs.Rows.{cnode_numbers, cnode_rows, context
 ghost use Rattle.mcs_turns.specs.Due.{choices};
 ghost use Rattle.mcs_turns.specs.Turns.{ArePicks};
 
-use crate::met::{Met, Numbers};
+use crate::met::{Numbers, RowInterner};
 use crate::numbers::{Row, put, put_any_id, put_cap, put_flag, put_id, put_letter, put_thread};
 use mcs_explore_walk::{Picks, Users, Walk, picked};
 use mcs_kernel::Kernel;
@@ -163,7 +163,7 @@ fn put_endpoint<L: Lines>(
     put_queue(row, kernel, Queue::Receivers(endpoint))
 }
 
-/// Adds the waiters of a notification, and its pending word.
+/// Adds the waiters of a notification and its pending word to the row.
 fn put_notification<L: Lines>(
     row: &mut Row,
     kernel: &Kernel<L>,
@@ -321,7 +321,8 @@ fn put_any_choices(
     stale: Option<&Picks>,
 ) -> Result<(), OutOfMemory>
     ensures { OnOk result (row.new.items
-        ≡ row.old.items ++ option_numbers (choice_list_numbers picks.now) (option_copied stale.entry)) }
+        ≡ row.old.items
+        ++ option_numbers (choice_list_numbers picks.now) (option_copied stale.entry)) }
 {
     match stale {
         Some(stale) => {
@@ -347,7 +348,7 @@ fn place_row<L: Lines>(alloc: Global, walk: &Walk<L>, user: usize) -> Result<Row
 /// Appends a row for the position of each user.
 fn put_places<L: Lines>(
     alloc: Global,
-    met: &mut Met,
+    met: &mut RowInterner,
     numbers: &mut Numbers,
     users: &Users,
     walk: &Walk<L>,
@@ -382,7 +383,7 @@ fn choice_row<L: Lines>(
 /// Adds a row for what each core may enter, where the cores have these picks.
 fn put_choices<L: Lines>(
     alloc: Global,
-    met: &mut Met,
+    met: &mut RowInterner,
     numbers: &mut Numbers,
     walk: &Walk<L>,
     picks: &[Picks],
@@ -401,7 +402,7 @@ fn put_choices<L: Lines>(
 /// Adds the rows of all objects of a kind.
 fn put_rows<L: Lines>(
     alloc: Global,
-    met: &mut Met,
+    met: &mut RowInterner,
     numbers: &mut Numbers,
     kernel: &Kernel<L>,
     kind: Kind,
@@ -426,7 +427,7 @@ fn put_rows<L: Lines>(
 /// Adds the rows of the CNodes, if users change slots.
 fn put_cnodes<L: Lines>(
     alloc: Global,
-    met: &mut Met,
+    met: &mut RowInterner,
     numbers: &mut Numbers,
     kernel: &Kernel<L>,
     changing: bool,
@@ -445,7 +446,7 @@ fn put_cnodes<L: Lines>(
 /// Adds the rows of all objects, those of CNodes only if users change slots.
 fn put_objects<L: Lines>(
     alloc: Global,
-    met: &mut Met,
+    met: &mut RowInterner,
     numbers: &mut Numbers,
     kernel: &Kernel<L>,
     changing: bool,
@@ -496,12 +497,12 @@ fn put_objects<L: Lines>(
     Ok(())
 }
 
-/// Returns the number in `met` of each row of a state, given the picks of its cores. New rows are
-/// added; the others keep their numbers. `numbered` says whether rows contain message numbers.
+/// Returns the number in `met` of each row of a state, given the picks of its cores. Interns new
+/// rows; the others keep their numbers. `numbered` says whether rows contain message numbers.
 /// `OutOfMemory` if an allocation fails.
 pub fn exact_numbers<L: Lines>(
     alloc: Global,
-    met: &mut Met,
+    met: &mut RowInterner,
     users: &Users,
     walk: &Walk<L>,
     picks: &[Picks],

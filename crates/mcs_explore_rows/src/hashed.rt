@@ -28,8 +28,8 @@ fn digest_of(row: &[u64]) -> u64
     digest
 }
 
-/// A row that was met. Its digest alone is hashed, since a hasher takes some 140 instructions for
-/// each number.
+/// An interned row. Its digest alone is hashed, since a hasher takes some 140 instructions for each
+/// number.
 #[derive(PartialEq, Eq, Drop)]
 pub struct Hashed {
     pub row: Row,

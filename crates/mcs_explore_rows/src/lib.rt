@@ -15,5 +15,5 @@ mod numbers;
 
 pub use coding::{Key, key_of};
 pub use exact::exact_numbers;
-pub use met::{Met, Numbers};
+pub use met::{Numbers, RowInterner};
 pub use numbers::{Row, kind_number, send_number};

@@ -14,11 +14,11 @@ pub type Numbers = Vec<u32>;
 
 /// An interner of rows. Clauses see the rows in the order of their numbers, from 0.
 #[derive(Drop)]
-pub struct Met {
+pub struct RowInterner {
     rows: IndexSet<Hashed>,
 }
 
-impl Model for Met {
+impl Model for RowInterner {
     ghost use Rattle.std.specs.Prelude.{ℕ, List, map};
 
     ghost Value = { List (List ℕ) };
@@ -36,12 +36,12 @@ fn narrow(number: usize) -> Result<u32, OutOfMemory>
     }
 }
 
-impl Met {
+impl RowInterner {
     /// Returns an interner without rows.
-    pub fn new(alloc: Global) -> Met
+    pub fn new(alloc: Global) -> RowInterner
         ensures { result ≡ [] }
     {
-        Met {
+        RowInterner {
             rows: IndexSet::new(alloc),
         }
     }

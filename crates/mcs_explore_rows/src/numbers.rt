@@ -144,7 +144,7 @@ fn put_any_block(row: &mut Row, block: Option<Block>) -> Result<(), AllocError>
     }
 }
 
-/// Adds what is kept of a thread.
+/// Adds the numbers of a thread's fields and state to a row.
 pub fn put_thread(row: &mut Row, thread: &ThreadRow) -> Result<(), AllocError>
     ensures { OnOk result (row.new.items ≡ row.old.items ++ row_numbers thread.now) }
 {

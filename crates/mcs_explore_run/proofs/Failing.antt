@@ -15,7 +15,7 @@ use Rattle.mcs_explore_questions.specs.declared.asking.Event.{Event}
 use Rattle.mcs_explore_script.specs.declared.questions.AskedLine.{AskedLine}
 use Rattle.mcs_explore_script.specs.declared.script.UserScript.{UserScript}
 use Rattle.mcs_explore_script.specs.UserLists.{user_of}
-use Rattle.mcs_explore_report.specs.declared.answers.Told.{Told}
+use Rattle.mcs_explore_report.specs.declared.answers.Witness.{Witness}
 use Rattle.mcs_explore_report.specs.declared.judging.Sighting.{Sighting}
 use Rattle.mcs_explore_report.specs.declared.verdicts.Verdict.{Verdict}
 use Rattle.mcs_explore_report.specs.Answers.{IsAnswerOf, IsMailed, IsOwnAnswer, Tables, table_of}
@@ -47,7 +47,7 @@ module _ (s : UserScript) (kinds : List Kind) (tables : Tables) (failed : List (
       let run = of.are.states end.number end.sight end.at in
       record { turns = run.turns; state = end.sight.going; run = run.run; over = run.over end.over; lacks = ap (lacks e) end.standing ∙ it.lacks }
 
-  answered : (user number : ℕ) (t : Told) (m : Made) → last_answer m.going.book ≡ Some m.answer → m.turn ≡ t.turn → IsOwnAnswer m user number t.answer ⊎ IsMailed s.users m.from m.going user number m.turn t.answer
+  answered : (user number : ℕ) (t : Witness) (m : Made) → last_answer m.going.book ≡ Some m.answer → m.turn ≡ t.turn → IsOwnAnswer m user number t.answer ⊎ IsMailed s.users m.from m.going user number m.turn t.answer
       → IsAnswered t.turn m.going user number t.answer ⊎ IsMailed s.users m.from m.going user number t.turn t.answer
   answered user number t m last same (inl own) = inl (subst (λ (u : Turn). IsAnswered u m.going user number t.answer) same (record { user = own.user; number = own.number; answer = last ∙ ap (λ a. Some a) own.answer }))
   answered user number t m last same (inr mail) = inr (subst (λ (u : Turn). IsMailed s.users m.from m.going user number u t.answer) same mail)
@@ -56,13 +56,13 @@ module _ (s : UserScript) (kinds : List Kind) (tables : Tables) (failed : List (
   said-once : (e : Event) (pattern : List ℕ) (wanted : Bool) (seen : Sighting) → IsFoundIn (answers_of s.users tables e) pattern wanted seen → SomeAnswerIs s.users s.boot e pattern wanted
   said-once e pattern wanted seen it = by (user_of s.users e.thread) refl
     where
-      none : Option (List Told) → List Told
+      none : Option (List Witness) → List Witness
       none o = unwrap_or o []
 
-      at-user : (user : ℕ) → user_of s.users e.thread ≡ Some user → (o : Option (List Told)) → table_of tables user (e.number - 1) ≡ o → slice_get (none o) it.index ≡ Some it.one → SomeAnswerIs s.users s.boot e pattern wanted
+      at-user : (user : ℕ) → user_of s.users e.thread ≡ Some user → (o : Option (List Witness)) → table_of tables user (e.number - 1) ≡ o → slice_get (none o) it.index ≡ Some it.one → SomeAnswerIs s.users s.boot e pattern wanted
       at-user user found None is at = absurd cc
-      at-user user found (Some told) is at =
-          let a = of.kept.answers.each user (e.number - 1) told it.index it.one is at in
+      at-user user found (Some witnesses) is at =
+          let a = of.kept.answers.each user (e.number - 1) witnesses it.index it.one is at in
           let run = of.are.turns a.index a.made a.at in
           record {
             user = user;
@@ -81,11 +81,11 @@ module _ (s : UserScript) (kinds : List Kind) (tables : Tables) (failed : List (
       by : (o : Option ℕ) → user_of s.users e.thread ≡ o → SomeAnswerIs s.users s.boot e pattern wanted
       by None is =
           let empty : answers_of s.users tables e ≡ [] = ap (λ (p : Option ℕ). elim p [ None ↦ [] | Some i ↦ unwrap_or (table_of tables i (e.number - 1)) [] ]) is in
-          let at : slice_get [] it.index ≡ Some it.one = sym (ap (λ (ts : List Told). slice_get ts it.index) empty) ∙ it.at in
+          let at : slice_get [] it.index ≡ Some it.one = sym (ap (λ (ts : List Witness). slice_get ts it.index) empty) ∙ it.at in
           absurd cc
       by (Some user) is =
           let same : answers_of s.users tables e ≡ none (table_of tables user (e.number - 1)) = ap (λ (p : Option ℕ). elim p [ None ↦ [] | Some i ↦ unwrap_or (table_of tables i (e.number - 1)) [] ]) is in
-          at-user user is (table_of tables user (e.number - 1)) refl (sym (ap (λ (ts : List Told). slice_get ts it.index) same) ∙ it.at)
+          at-user user is (table_of tables user (e.number - 1)) refl (sym (ap (λ (ts : List Witness). slice_get ts it.index) same) ∙ it.at)
 
   -- a failure that is kept came in a run
   failed-by : (q : Asked) (place : ℕ) (turn : Option Turn) (h : Going) → IsShownBy of.shown place turn h → fails s.users q turn h ≡ true → FailsInRun s.users s.boot q

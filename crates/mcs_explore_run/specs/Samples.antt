@@ -19,7 +19,7 @@ use Rattle.mcs_explore_run.specs.declared.showing.Judged.{Judged}
 use Rattle.mcs_explore_run.specs.declared.showing.Showed.{Showed}
 use Rattle.mcs_explore_run.specs.declared.showing.Showed.TheVariants as showed
 
--- a state that was shown is that of a run, and is over if that was said
+-- a state that was shown is that of a run, and is over if it was shown as over
 pub record IsOfRun (users : List User) (boot : Boot) (s : Sight) : Type 0 where
   pub turns : ℕ
   pub run : IsRun users boot turns s.going
@@ -37,13 +37,13 @@ pub record AreOfRuns (users : List User) (boot : Boot) (shown : Shown) : Type 0 
   pub states : (j : ℕ) (s : Sight) → slice_get shown.states j ≡ Some s → IsOfRun users boot s
   pub turns : (j : ℕ) (m : Made) → slice_get shown.turns j ≡ Some m → IsFromRun users boot m
 
--- one who has seen what is of runs
+-- a watch that has seen only states and turns of runs
 pub record HasSeenRuns {W : Type 0} (Has : W → List User → Shown → Type 0) (watch : W) (users : List User) (boot : Boot) : Type 0 where
   pub shown : Shown
   pub has : Has watch users shown
   pub are : AreOfRuns users boot shown
 
--- one who sees more of runs
+-- a watch that is shown more states and turns of runs
 abbrev pub SeesRuns : {W : Type 0} → (W → List User → Shown → Type 0) → W → W → List User → Boot → Type 0
 SeesRuns Has old new users boot = HasSeenRuns Has old users boot → HasSeenRuns Has new users boot
 

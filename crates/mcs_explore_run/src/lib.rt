@@ -9,7 +9,6 @@
 #![tactic(auto)]
 
 mod drawing;
-mod nobody;
 mod running;
 mod sampling;
 mod showing;

@@ -5,8 +5,7 @@ ghost use Rattle.mcs_explore_run.specs.Runs.{CanTurn, IsDrawn, IsRunUpTo};
 ghost use Rattle.mcs_explore_run.specs.Samples.{SeesFrom, SeesRuns};
 
 use crate::drawing::draw;
-use crate::nobody::Nobody;
-use mcs_explore_orders::{OrdersFault, Turn, Users, Walk, Watch};
+use mcs_explore_orders::{Nobody, OrdersFault, Turn, Users, Walk, Watch};
 use mcs_explore_script::{UserScript, fault_of, run_text};
 use mcs_lab_check::LabFault;
 use mcs_queues::PlainLines;
@@ -16,7 +15,7 @@ use rand_pcg::Pcg32;
 use std::alloc::Global;
 
 /// A run: how many turns it made, the state after them, and whether no turn is possible there. If
-/// it is not over, it made the wanted number.
+/// it is not over, it made the number of turns that was asked for.
 #[derive(Drop)]
 pub struct Run {
     walk: Walk<PlainLines>,

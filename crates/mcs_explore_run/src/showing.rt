@@ -16,9 +16,9 @@ use std::alloc::Global;
 pub enum Showed {
     /// It fails, as this run shows.
     Fails(usize),
-    /// The wanted event came in this run.
+    /// The event that the question asks for came in this run.
     Came(usize),
-    /// The wanted event came in no run.
+    /// The event that the question asks for came in no run.
     CameNot,
     /// It failed in no run.
     FailedNot,
@@ -108,7 +108,7 @@ fn push<'a>(all: &mut Vec<Judged<'a>>, judged: Judged<'a>) -> Result<(), LabFaul
     Ok(())
 }
 
-/// Adds what runs show of the question with a number, if that line holds or fails.
+/// Adds what runs show of the question with this number, if that line is one that can hold or fail.
 fn push_judged<'a>(
     alloc: Global,
     all: &mut Vec<Judged<'a>>,

@@ -12,7 +12,7 @@ use mcs_explore_report::{
 };
 use mcs_explore_script::{UserScript, read_script};
 use mcs_lab_check::LabFault;
-use mcs_lab_inspect::Page;
+use mcs_lab_inspect::TextBuffer;
 use mcs_sim::Source;
 use mcs_trace::Line;
 use std::alloc::Global;
@@ -101,18 +101,18 @@ impl<'a> Report<'a> {
 }
 
 /// Appends how many runs there are.
-fn put_runs(page: &mut Page, chances: Chances) {
+fn put_runs(page: &mut TextBuffer, chances: Chances) {
     page.counted(chances.runs, "run");
 }
 
 /// Appends the options that draw the run with this number again.
-fn put_seed(page: &mut Page, chances: Chances, number: usize) {
+fn put_seed(page: &mut TextBuffer, chances: Chances, number: usize) {
     page.put(b"--seed ");
     page.number(chances.seed_of(number));
 }
 
 /// Appends how many runs were drawn, by which seeds, and how many of them ended.
-fn put_head(page: &mut Page, sample: &Sample<'_>) {
+fn put_head(page: &mut TextBuffer, sample: &Sample<'_>) {
     let chances = sample.chances;
     put_runs(page, chances);
     page.put(b" by the seeds ");
@@ -129,7 +129,7 @@ fn put_head(page: &mut Page, sample: &Sample<'_>) {
 }
 
 /// Appends a kind of end with its number, from 1 on.
-fn put_end(page: &mut Page, report: &Report<'_>, number: usize, end: &End) {
+fn put_end(page: &mut TextBuffer, report: &Report<'_>, number: usize, end: &End) {
     let chances = report.sample.chances;
     page.put(b"end ");
     page.count(number);
@@ -148,7 +148,7 @@ fn put_end(page: &mut Page, report: &Report<'_>, number: usize, end: &End) {
 }
 
 /// Appends all kinds of ends that are all done, or all others.
-fn put_ends(page: &mut Page, report: &Report<'_>, wanted: bool) {
+fn put_ends(page: &mut TextBuffer, report: &Report<'_>, wanted: bool) {
     for (index, end) in report.sample.watched.ends.kinds().iter().enumerate() {
         let is_done = report.ending(end) == Ending::AllDone;
         if is_done == wanted {
@@ -159,7 +159,7 @@ fn put_ends(page: &mut Page, report: &Report<'_>, wanted: bool) {
 
 /// Appends an entry of a user with its answers; `line` is a buffer for their texts.
 fn put_entry(
-    page: &mut Page,
+    page: &mut TextBuffer,
     alloc: Global,
     line: &mut Line,
     report: &Report<'_>,
@@ -190,7 +190,7 @@ fn put_entry(
 /// Appends all entries, in the order of users and entries; `line` is a buffer for the texts of
 /// answers.
 fn put_entries(
-    page: &mut Page,
+    page: &mut TextBuffer,
     alloc: Global,
     line: &mut Line,
     report: &Report<'_>,
@@ -212,7 +212,7 @@ fn put_entries(
 }
 
 /// Appends a question and what runs show of it.
-fn put_question(page: &mut Page, chances: Chances, judged: &Judged<'_>) {
+fn put_question(page: &mut TextBuffer, chances: Chances, judged: &Judged<'_>) {
     put_asked(page, judged.line);
     page.put(b": ");
     match judged.showed {
@@ -232,7 +232,7 @@ fn put_question(page: &mut Page, chances: Chances, judged: &Judged<'_>) {
 }
 
 /// Appends all questions that fail, or all others.
-fn put_questions(page: &mut Page, report: &Report<'_>, wanted: bool) {
+fn put_questions(page: &mut TextBuffer, report: &Report<'_>, wanted: bool) {
     for judged in report.judged.iter() {
         if judged.showed.fails() == wanted {
             put_question(page, report.sample.chances, judged);
@@ -241,7 +241,7 @@ fn put_questions(page: &mut Page, report: &Report<'_>, wanted: bool) {
 }
 
 /// Appends a clause of the verdict, after a semicolon unless it is the first.
-fn put_clause(page: &mut Page, is_first: bool, text: &str) {
+fn put_clause(page: &mut TextBuffer, is_first: bool, text: &str) {
     if !is_first {
         page.put(b"; ");
     }
@@ -249,7 +249,7 @@ fn put_clause(page: &mut Page, is_first: bool, text: &str) {
 }
 
 /// Appends the questions that fail, a clause for each.
-fn put_failures(page: &mut Page, report: &Report<'_>, is_first: bool) {
+fn put_failures(page: &mut TextBuffer, report: &Report<'_>, is_first: bool) {
     let mut is_first = is_first;
     for judged in report.judged.iter() {
         if judged.showed.fails() {
@@ -261,7 +261,7 @@ fn put_failures(page: &mut Page, report: &Report<'_>, is_first: bool) {
 }
 
 /// Appends the questions about which runs show nothing, a clause for each.
-fn put_unseen(page: &mut Page, report: &Report<'_>) {
+fn put_unseen(page: &mut TextBuffer, report: &Report<'_>) {
     for judged in report.judged.iter() {
         let what = match judged.showed {
             Showed::CameNot => " not seen so far",
@@ -275,7 +275,7 @@ fn put_unseen(page: &mut Page, report: &Report<'_>) {
 }
 
 /// Appends what fails.
-fn put_failure(page: &mut Page, report: &Report<'_>) {
+fn put_failure(page: &mut TextBuffer, report: &Report<'_>) {
     page.put(b"FAILS: ");
     let mut is_first = true;
     if report.has_ending(Ending::Deadlock) {
@@ -290,7 +290,7 @@ fn put_failure(page: &mut Page, report: &Report<'_>) {
 }
 
 /// Appends the verdict: what fails, or that nothing did so far.
-fn put_verdict(page: &mut Page, report: &Report<'_>) {
+fn put_verdict(page: &mut TextBuffer, report: &Report<'_>) {
     put_runs(page, report.sample.chances);
     page.put(b", not whole: ");
     if report.has_failure() {
@@ -310,7 +310,7 @@ fn write_report<W: Write>(
     report: &Report<'_>,
     to: &mut W,
 ) -> Result<(), LabFault> {
-    let mut page = Page::new(alloc)?;
+    let mut page = TextBuffer::new(alloc)?;
     put_head(&mut page, &report.sample);
     put_ends(&mut page, report, false);
     put_questions(&mut page, report, true);
@@ -321,7 +321,8 @@ fn write_report<W: Write>(
     page.write(to)
 }
 
-/// Draws runs of the users of a script, and reports on them. Returns whether something fails.
+/// Draws runs of the users of a script, and writes a report on them. Returns whether something
+/// fails.
 fn tell_of<W: Write>(
     alloc: Global,
     script: &UserScript,

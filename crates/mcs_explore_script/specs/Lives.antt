@@ -9,8 +9,8 @@ use Rattle.mcs_explore_script.specs.declared.lives.Live.{Live}
 use Rattle.mcs_explore_script.specs.declared.questions.AskedLine.{AskedLine}
 use Rattle.mcs_explore_script.specs.UserLists.{user_of}
 
--- the entry that can be answered in some order as long as a user is not stuck: its last; any, where
--- it goes on again or by a program
+-- the entry that can be answered in some order as long as a user is not stuck: its last; any, if
+-- its list repeats or it runs a program
 abbrev pub last_entry : User → Option ℕ
 last_entry u = cond (is_program u.ops) None (elim u.again [ None ↦ Some (length u.entries - 1) | Some first ↦ None ])
 
@@ -33,7 +33,7 @@ asked_live us _ = []
 abbrev pub asked_lives : List User → List AskedLine → List Live
 asked_lives us questions = flat_map (λ (q : AskedLine). asked_live us q.asked) questions
 
--- a user of whose waits no question is
+-- a user about whose waits there is no question
 abbrev pub other_live : List AskedLine → ℕ → User → List Live
 other_live questions i u = cond (list_any (λ (q : AskedLine). is_of_waits q.asked u.thread) questions) [] ((record { user = i; entry = last_entry u }) ∷ [])
 
@@ -42,6 +42,7 @@ abbrev pub other_lives : List AskedLine → ℕ → List User → List Live
 other_lives questions i [] = []
 other_lives questions i (u ∷ us) = other_live questions i u ++ other_lives questions (i + 1) us
 
--- users that may not get stuck: those of questions, then each of whose waits no question is
+-- users that must not get stuck: those of questions, then each about whose waits there is no
+-- question
 abbrev pub lives_of : List User → List AskedLine → List Live
 lives_of us questions = asked_lives us questions ++ other_lives questions 0 us

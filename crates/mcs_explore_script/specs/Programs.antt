@@ -33,7 +33,7 @@ abbrev pub with_program_entries : List User → ObjId → List ProgramEntry → 
 with_program_entries us t [] = us
 with_program_entries us t (e ∷ es) = with_program_entries (with_entry us t e.entry) t es
 
--- users with a program more: its thread has its entries, and goes on by its lines
+-- users with a program more: its thread has its entries, and continues by its lines
 abbrev pub with_one_program : List User → Program → List User
 with_one_program us p = with_program (with_program_entries us p.thread p.entries.items) p.thread p.ops.items p.fills.items
 

@@ -24,7 +24,7 @@ line_asks s line = question_of line >>= λ text. asks s (words_of text)
 abbrev pub LineAsks : Type 0
 LineAsks = ℕ × Option Said
 
--- what a question that was read says of its line
+-- the number of the line of a question that was read, and what it asks
 abbrev pub said_by : AskedLine → LineAsks
 said_by q = (q.line, Some (said_of q.asked))
 

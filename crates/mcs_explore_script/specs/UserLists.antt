@@ -21,12 +21,12 @@ abbrev pub with_entries : List User → List UserEntry → List User
 with_entries us [] = us
 with_entries us (e ∷ es) = with_entries (with_entry us e.thread e.entry) es
 
--- users that go by a rule: that of what is told once is for the programs of all
+-- users that follow a rule; the rule `ResumedGoesOn` changes no list, since it is for all programs
 abbrev pub ruled_by : Rule → List User → List User
 ruled_by (rule.By by) us = map (scheduled by) us
-ruled_by rule.ToldOnce us = us
+ruled_by rule.ResumedGoesOn us = us
 
--- users of which one goes on again, or which go by a rule, where a line says so
+-- users of which one repeats, or which follow a rule, if a line says so
 abbrev pub changed_by : List User → Asked → List User
 changed_by us (asked.Again e) = with_again us e.thread (e.number - 1)
 changed_by us (asked.Ruled rule) = ruled_by rule us
@@ -39,7 +39,7 @@ all_changed us (q ∷ qs) = all_changed (changed_by us q.asked) qs
 
 -- whether a line lets no user give an entry again that was answered
 abbrev pub tells_once : Asked → Bool
-tells_once (asked.Ruled rule.ToldOnce) = true
+tells_once (asked.Ruled rule.ResumedGoesOn) = true
 tells_once _ = false
 
 -- users that go by all lines: by the programs of their lists, where one lets no user give an entry

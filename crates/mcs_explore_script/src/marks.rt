@@ -2,7 +2,7 @@
 ghost use Rattle.std.specs.Prelude.{◌≡◌, IfOk};
 ghost use Rattle.mcs_lab_check.specs.Naming.{text_names};
 
-use mcs_lab_check::{LabFault, Names};
+use mcs_lab_check::{LabFault, Labels};
 use mcs_text::{Lines, UserEntry, Words, find_boot_key};
 use mcs_types::ObjId;
 use std::alloc::Global;
@@ -16,10 +16,10 @@ pub struct EntryText {
 
 /// Returns the names that the lines of a text give. Fault `Form` if a line `#@` does not have its
 /// form.
-pub fn read_names(alloc: Global, text: &[u8]) -> Result<Names, LabFault>
+pub fn read_names(alloc: Global, text: &[u8]) -> Result<Labels, LabFault>
     ensures { IfOk result (λ names. names ≡ text_names text.now) }
 {
-    let mut names = Names::new(alloc);
+    let mut names = Labels::new(alloc);
     let mut lines = Lines::new(text);
     let mut number: u64 = 1;
     while let Some(line) = lines.next_line() {

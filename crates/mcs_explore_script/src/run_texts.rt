@@ -8,7 +8,7 @@ ghost use Rattle.mcs_explore_script.specs.Steps.{script_text};
 use crate::steps::write_steps;
 use mcs_book::Book;
 use mcs_explore_walk::OrdersFault;
-use mcs_lab_check::{LabFault, Names};
+use mcs_lab_check::{LabFault, Labels};
 use mcs_text::Token;
 use mcs_trace::{Line, Sink, spell};
 use mcs_types::ObjId;
@@ -23,7 +23,7 @@ pub fn fault_of(fault: OrdersFault) -> LabFault {
 }
 
 /// Adds the lines that give the names. `OutOfMemory` if an allocation fails.
-fn push_names(alloc: Global, text: &mut Vec<u8>, names: &Names) -> Result<(), LabFault>
+fn push_names(alloc: Global, text: &mut Vec<u8>, names: &Labels) -> Result<(), LabFault>
     ensures { OnOk result (text.new.items ≡ text.old.items ++ names_text names.now) }
 {
     let mut line = Box::new(alloc, Line::new())?;
@@ -80,7 +80,7 @@ fn with_steps(alloc: Global, text: Vec<u8>, book: &Book) -> Result<Vec<u8>, LabF
 pub fn run_text(
     alloc: Global,
     comment: &[u8],
-    names: &Names,
+    names: &Labels,
     book: &Book,
 ) -> Result<Vec<u8>, LabFault>
     ensures { IfOk result (λ text. text.items ≡ run_text comment.now names.now book.now.book) }

@@ -13,7 +13,7 @@ use crate::users::{add_programs, come_once, ruled, rules_once, users_of};
 use mcs_explore_programs::Label;
 use mcs_explore_questions::{ExploreFault, There};
 use mcs_kernel::Boot;
-use mcs_lab_check::{LabFault, Names};
+use mcs_lab_check::{LabFault, Labels};
 use mcs_sim::Source;
 use mcs_text::UserEntry;
 use mcs_users::Users;
@@ -30,7 +30,7 @@ pub struct UserScript {
     /// The users that must not get stuck: those of the lines `live`, in order, and then each user
     /// that no line `idle` or `live` names.
     pub lives: Vec<Live>,
-    pub names: Names,
+    pub names: Labels,
 }
 
 /// The users of a script, the texts of their entries, and the names of entries of programs.
@@ -48,7 +48,7 @@ fn read_users(
     text: &[u8],
     boot: &Boot,
     entries: Vec<UserEntry>,
-    names: &Names,
+    names: &Labels,
 ) -> Result<UserTexts, ExploreFault>
     ensures { IfOk result (λ s. AreUsers text.now entries.items s.users s.labels.items) }
 {
@@ -80,7 +80,7 @@ fn read_asked(
     alloc: Global,
     text: &[u8],
     boot: &Boot,
-    names: &Names,
+    names: &Labels,
     said: &UserTexts,
 ) -> Result<Vec<AskedLine>, ExploreFault>
     ensures { IfOk result (λ asked. map said_by asked.items
@@ -108,13 +108,13 @@ fn read_said(alloc: Global, said: UsersText) -> Result<UserScript, ExploreFault>
         entries,
     } = said;
     let names = read_names(alloc, &text)?;
-    let told = read_users(alloc, &text, &boot, entries, &names)?;
-    let asked = read_asked(alloc, &text, &boot, &names, &told)?;
+    let users_read = read_users(alloc, &text, &boot, entries, &names)?;
+    let asked = read_asked(alloc, &text, &boot, &names, &users_read)?;
     let UserTexts {
         users: given,
         texts,
         ..
-    } = told;
+    } = users_read;
     rules_once(&asked)?;
     let users = ruled(alloc, given, &asked)?;
     come_once(alloc, &users, &asked)?;

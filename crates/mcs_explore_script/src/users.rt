@@ -126,7 +126,7 @@ fn set_rule(users: &mut Users, rule: Rule)
 {
     match rule {
         Rule::By(schedule) => users.set_schedule(schedule),
-        Rule::ToldOnce => {}
+        Rule::ResumedGoesOn => {}
     }
 }
 
@@ -169,7 +169,7 @@ fn tells_once(asked: &Asked) -> bool
     match asked {
         Asked::Ruled { rule } => match rule {
             Rule::By(_) => false,
-            Rule::ToldOnce => true,
+            Rule::ResumedGoesOn => true,
         },
         Asked::Idle { .. }
         | Asked::Live { .. }
@@ -209,8 +209,8 @@ pub fn ruled(alloc: Global, users: Users, asked: &[AskedLine]) -> Result<Users, 
 /// Returns whether two rules are of one kind.
 fn are_of_one_kind(one: Rule, other: Rule) -> bool {
     match (one, other) {
-        (Rule::By(_), Rule::By(_)) | (Rule::ToldOnce, Rule::ToldOnce) => true,
-        (Rule::By(_), Rule::ToldOnce) | (Rule::ToldOnce, Rule::By(_)) => false,
+        (Rule::By(_), Rule::By(_)) | (Rule::ResumedGoesOn, Rule::ResumedGoesOn) => true,
+        (Rule::By(_), Rule::ResumedGoesOn) | (Rule::ResumedGoesOn, Rule::By(_)) => false,
     }
 }
 

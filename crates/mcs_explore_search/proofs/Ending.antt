@@ -16,8 +16,8 @@ use Rattle.std.proofs.lemmas.Grind.{common_steps}
 pub depth-is : {K L : Type 0} (E : Entries K L) (i : ℕ) (k : K) (f : Found L) → At E i k f → depth_at E i ≡ f.depth
 depth-is {K = K} {L = L} E i k f at = ap (λ (o : Option (K × Found L)). elim o [ None ↦ 0 | Some e ↦ e.1.depth ]) at
 
-pub depth-told : {K L : Type 0} (E : Entries K L) (i : ℕ) (k : K) (f : Found L) → At E i k f → (n : ℕ) → n ≡ depth_at E i → n ≡ f.depth
-depth-told E i k f at n is = is ∙ depth-is E i k f at
+pub depth-given : {K L : Type 0} (E : Entries K L) (i : ℕ) (k : K) (f : Found L) → At E i k f → (n : ℕ) → n ≡ depth_at E i → n ≡ f.depth
+depth-given E i k f at n is = is ∙ depth-is E i k f at
 
 -- another system with the same steps, and with keys for all that had some
 module _ {A K L : Type 0} (eq : K → K → Bool) (Leads Goes : L → A → A → Type 0) (Like Alike : A → A → Type 0) (IsKey HasKey : A → K → Type 0) (start begin : A)
@@ -41,20 +41,20 @@ module _ {A K L : Type 0} (eq : K → K → Bool) (Leads Goes : L → A → A �
     small = a.small;
   }
 
-  pub edges-again : (d : ℕ) (vs : List (Visit A)) (G : List Edge) → AreEdges Leads Like d vs G → AreEdges Goes Alike d vs G
+  pub edges-again : (d : ℕ) (vs : List (Visit A)) (G : List (Edge L)) → AreEdges Leads Like d vs G → AreEdges Goes Alike d vs G
   edges-again d vs G a = record {
     each = λ n e h. let o : IsEdge Leads Like vs e = a.each n e h in
-        record { from = o.from; at = o.at; to = o.to; there = o.there; state = o.state; step = (o.step.0, (leads o.step.0 o.from.state o.state).0 o.step.1); like = likes o.state o.to.state o.like };
-    all = λ i v below h t step. let o : HasEdge Like vs G i t = a.all i v below h t (step.0, (leads step.0 v.state t).1 step.1) in
-        record { number = o.number; edge = o.edge; at = o.at; from = o.from; to = o.to; there = o.there; like = likes t o.to.state o.like };
+        record { from = o.from; at = o.at; to = o.to; there = o.there; state = o.state; step = (leads e.label o.from.state o.state).0 o.step; like = likes o.state o.to.state o.like };
+    all = λ i v below h l t step. let o : HasEdge Like vs G i l t = a.all i v below h l t ((leads l v.state t).1 step) in
+        record { number = o.number; edge = o.edge; at = o.at; from = o.from; label = o.label; to = o.to; there = o.there; like = likes t o.to.state o.like };
   }
 
-  pub search-again : (d : ℕ) (E : Entries K L) (G : List Edge) → IsSearching eq Leads Like IsKey start d E G → IsSearching eq Goes Alike HasKey begin d E G
+  pub search-again : (d : ℕ) (E : Entries K L) (G : List (Edge L)) → IsSearching eq Leads Like IsKey start d E G → IsSearching eq Goes Alike HasKey begin d E G
   search-again d E G a = record { visits = a.visits; is = again d E a.visits a.is; edges = edges-again d a.visits G a.edges }
 
 module _ {A K L : Type 0} (eq : K → K → Bool) (fair : IsEquivalence eq) (Leads : L → A → A → Type 0) (Like : A → A → Type 0) (IsKey : A → K → Type 0) (start : A) where
   -- where a path leads to, for the next call
-  pub leads-there : {G : List Edge} (d : ℕ) (E : Entries K L) → (a : IsSearching eq Leads Like IsKey start d E G) → (i : ℕ) (k : K) (f : Found L) → At E i k f → (v : Visit A) → slice_get a.visits i ≡ Some v → IsReached Leads IsKey start E i k f v.state
+  pub leads-there : {G : List (Edge L)} (d : ℕ) (E : Entries K L) → (a : IsSearching eq Leads Like IsKey start d E G) → (i : ℕ) (k : K) (f : Found L) → At E i k f → (v : Visit A) → slice_get a.visits i ≡ Some v → IsReached Leads IsKey start E i k f v.state
   leads-there d E a i k f at v there =
       let is : path_back E i f.depth ≡ path_of E i = ap (λ (n : ℕ). path_back E i n) (sym (depth-is E i k f at)) in
       let all = path-leads eq fair Leads Like IsKey start E a.visits a.is.grown f.depth i k f at refl v there in
@@ -76,13 +76,13 @@ module _ {A K L : Type 0} (eq : K → K → Bool) (fair : IsEquivalence eq) (Lea
     pub reached : IsReached Leads IsKey start E d key found visit.state
     pub small : found.depth ≤ d
 
-  pub open-at : {G : List Edge} (d : ℕ) (E : Entries K L) → (a : IsSearching eq Leads Like IsKey start d E G) → d < length E → IsOpen d E a.visits
+  pub open-at : {G : List (Edge L)} (d : ℕ) (E : Entries K L) → (a : IsSearching eq Leads Like IsKey start d E G) → d < length E → IsOpen d E a.visits
   open-at d E a below =
       let e = within-at E d below in
       let g : IsGrown Leads IsKey start E a.visits d e.0.0 e.0.1 = a.is.grown d e.0.0 e.0.1 e.1 in
       record { key = e.0.0; found = e.0.1; at = e.1; visit = g.visit; there = g.there; reached = leads-there d E a d e.0.0 e.0.1 e.1 g.visit g.there; small = a.is.small d e.0.0 e.0.1 e.1 }
 
-  module _ {G : List Edge} (d : ℕ) (E : Entries K L) (a : IsSearching eq Leads Like IsKey start d E G) where
+  module _ {G : List (Edge L)} (d : ℕ) (E : Entries K L) (a : IsSearching eq Leads Like IsKey start d E G) where
     visit-of : (i : ℕ) (k : K) (f : Found L) → At E i k f → IsVisitOf Leads IsKey start E a.visits i k f
     visit-of i k f at =
         let g : IsGrown Leads IsKey start E a.visits i k f = a.is.grown i k f at in

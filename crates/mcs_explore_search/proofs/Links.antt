@@ -9,7 +9,7 @@ use Rattle.mcs_explore_search.specs.Reaching.{AreWithin, IsLink, LeadsOut}
 use Rattle.mcs_explore_search.proofs.Places.{at-within, same-place}
 
 -- where a run from a place along edges ends, and what it is like
-pub record IsAlong {A : Type 0} (Like : A → A → Type 0) (visits : List (Visit A)) (edges : List Edge) (i n : ℕ) (t : A) : Type 0 where
+pub record IsAlong {A L : Type 0} (Like : A → A → Type 0) (visits : List (Visit A)) (edges : List (Edge L)) (i n : ℕ) (t : A) : Type 0 where
   pub end : ℕ
   pub visit : Visit A
   pub there : slice_get visits end ≡ Some visit
@@ -26,7 +26,7 @@ less-or-not (suc m) (suc n) = go (less-or-not m n)
     go (inl l) = inl (omega (arith, l))
     go (inr l) = inr (omega (arith, l))
 
-module _ {A L : Type 0} (Leads : L → A → A → Type 0) (Like : A → A → Type 0) (likes : IsLikeness (Steps Leads) Like) (d : ℕ) (visits : List (Visit A)) (edges : List Edge) (are : AreEdges Leads Like d visits edges) where
+module _ {A L : Type 0} (Leads : L → A → A → Type 0) (Like : A → A → Type 0) (likes : IsLikeness (Steps Leads) Like) (d : ℕ) (visits : List (Visit A)) (edges : List (Edge L)) (are : AreEdges Leads Like d visits edges) where
   -- a run from a state that is like a visited one goes along edges, or these lead to a place that
   -- was not expanded
   pub along : (n i : ℕ) (v : Visit A) (s t : A) → slice_get visits i ≡ Some v → Like s v.state → Run (Steps Leads) s n t → IsAlong Like visits edges i n t ⊎ LeadsOut edges d (length visits) i
@@ -36,7 +36,7 @@ module _ {A L : Type 0} (Leads : L → A → A → Type 0) (Like : A → A → T
       step-on : (a : IsAlong Like visits edges i n run.0) → (a.end < d) ⊎ (d ≤ a.end) → IsAlong Like visits edges i (suc n) t ⊎ LeadsOut edges d (length visits) i
       step-on a (inl below) =
           let step = likes.respects run.0 a.visit.state t a.like run.1.1 in
-          let e : HasEdge Like visits edges a.end step.0 = are.all a.end a.visit below a.there step.0 step.1.0 in
+          let e : HasEdge Like visits edges a.end step.1.0.0 step.0 = are.all a.end a.visit below a.there step.1.0.0 step.0 step.1.0.1 in
           inl (record {
             end = e.edge.to;
             visit = e.to;
@@ -54,7 +54,7 @@ module _ {A L : Type 0} (Leads : L → A → A → Type 0) (Like : A → A → T
   link-on : ((s t : A) → Like s t → Like t s) → (n j m : ℕ) (w : Visit A) (s t : A) → slice_get visits j ≡ Some w → (l : IsLink edges m j) → (e : IsEdge Leads Like visits l.edge) → Run (Steps Leads) s n t → Like t e.from.state
       → (u : A) × (Run (Steps Leads) s (suc n) u × Like u w.state)
   link-on back n j m w s t there l e run like =
-      let step = likes.respects e.from.state t e.state (back t e.from.state like) e.step in
+      let step = likes.respects e.from.state t e.state (back t e.from.state like) (l.edge.label, e.step) in
       let to : e.to ≡ w = same-place visits l.edge.to j e.to w l.to e.there there in
       (step.0, ((t, (run, step.1.0)), subst (λ (x : Visit A). Like step.0 x.state) to (likes.trans step.0 e.state e.to.state (back e.state step.0 step.1.1) e.like)))
 
@@ -68,5 +68,5 @@ module _ {A L : Type 0} (Leads : L → A → A → Type 0) (Like : A → A → T
       link-on back n j run.0 w s before.0 there run.1.1 e before.1.0 before.1.1
 
 -- edges lie between visits
-pub within : {A L : Type 0} (Leads : L → A → A → Type 0) (Like : A → A → Type 0) (d : ℕ) (visits : List (Visit A)) (edges : List Edge) → AreEdges Leads Like d visits edges → AreWithin edges (length visits)
+pub within : {A L : Type 0} (Leads : L → A → A → Type 0) (Like : A → A → Type 0) (d : ℕ) (visits : List (Visit A)) (edges : List (Edge L)) → AreEdges Leads Like d visits edges → AreWithin edges (length visits)
 within Leads Like d visits edges are k e at = let o : IsEdge Leads Like visits e = are.each k e at in (at-within visits e.from o.from o.at, at-within visits e.to o.to o.there)

@@ -28,10 +28,10 @@ mark-stays marks p i lt h = go (nat_eq i p) refl
     go false is = get_or-set_other marks p i true false (grind (arith, common_steps, is)) ∙ h
 
 -- a link, and then what it leads to is led on
-link-led : (edges : List Edge) (marks : List Bool) (i j : ℕ) → IsLink edges i j → IsLed edges marks j → IsLed edges marks i
+link-led : {L : Type 0} (edges : List (Edge L)) (marks : List Bool) (i j : ℕ) → IsLink edges i j → IsLed edges marks j → IsLed edges marks i
 link-led edges marks i j link led = record { steps = suc led.steps; end = led.end; run = run-front (IsLink edges) i j led.steps led.end link led.run; marked = led.marked }
 
-pub mark-led : (edges : List Edge) (marks : List Bool) (i : ℕ) → is_marked marks i ≡ true → IsLed edges marks i
+pub mark-led : {L : Type 0} (edges : List (Edge L)) (marks : List Bool) (i : ℕ) → is_marked marks i ≡ true → IsLed edges marks i
 mark-led edges marks i h = record { steps = 0; end = i; run = refl; marked = h }
 
 sum-zero : (m : ℕ) → m ≡ 0 + m
@@ -46,7 +46,7 @@ run-on {A = A} Step s u t m zero a b = subst (λ (x : A). Run Step s (0 + m) x) 
 run-on {A = A} Step s u t m (suc n) a b = subst (λ (k : ℕ). Run Step s k t) (sum-suc n m) (b.0, (run-on Step s u b.0 m n a b.1.0, b.1.1))
 
 -- what is led on to what is led on
-led-on : (edges : List Edge) (old new : List Bool) → ((j : ℕ) → is_marked new j ≡ true → IsLed edges old j) → (i : ℕ) → IsLed edges new i → IsLed edges old i
+led-on : {L : Type 0} (edges : List (Edge L)) (old new : List Bool) → ((j : ℕ) → is_marked new j ≡ true → IsLed edges old j) → (i : ℕ) → IsLed edges new i → IsLed edges old i
 led-on edges old new all i a =
     let b : IsLed edges old a.end = all a.end a.marked in
     record { steps = b.steps + a.steps; end = b.end; run = run-on (IsLink edges) i a.end b.end a.steps b.steps a.run b.run; marked = b.marked }
@@ -69,7 +69,7 @@ one-else true true h is = refl
 one-else true false h is = absurd cc
 one-else false b h is = absurd cc
 
-module _ (edges : List Edge) (old : List Bool) where
+module _ {L : Type 0} (edges : List (Edge L)) (old : List Bool) where
   pub none-swept : IsSweeping edges old old 0 0
   none-swept = record {
     long = refl;
@@ -81,7 +81,7 @@ module _ (edges : List Edge) (old : List Bool) where
   }
 
   -- an edge more
-  pub swept-on : AreWithin edges (length old) → (new : List Bool) (added n k : ℕ) (e : Edge) → slice_get edges k ≡ Some e → length edges ≡ k + suc n → IsSweeping edges old new added n
+  pub swept-on : AreWithin edges (length old) → (new : List Bool) (added n k : ℕ) (e : Edge L) → slice_get edges k ≡ Some e → length edges ≡ k + suc n → IsSweeping edges old new added n
       → IsSweeping edges old (marked e new) (added + from_bool (joins e new)) (suc n)
   swept-on within new added n k e at is a = go (joins e new) refl
     where
@@ -121,8 +121,8 @@ module _ (edges : List Edge) (old : List Bool) where
         shut = λ none j o far there. shut none j o there (nat_eq j k) refl far;
       }
         where
-          shut : added + 0 ≡ 0 → (j : ℕ) (o : Edge) → slice_get edges j ≡ Some o → (b : Bool) → nat_eq j k ≡ b → length edges ≤ j + suc n → IsShut new o
-          shut none j o there true eq far = subst (λ (x : Edge). IsShut new x) (same-place edges k j e o (sym (grind (arith, common_steps, eq))) at there) (λ h. one-else (is_marked new e.to) (is_marked new e.from) old-one h)
+          shut : added + 0 ≡ 0 → (j : ℕ) (o : Edge L) → slice_get edges j ≡ Some o → (b : Bool) → nat_eq j k ≡ b → length edges ≤ j + suc n → IsShut new o
+          shut none j o there true eq far = subst (λ (x : Edge L). IsShut new x) (same-place edges k j e o (sym (grind (arith, common_steps, eq))) at there) (λ h. one-else (is_marked new e.to) (is_marked new e.from) old-one h)
           shut none j o there false ne far = a.shut (omega (arith, none)) j o (let apart : j ≢ k = grind (arith, common_steps, ne) in omega (arith, far, is, apart)) there
 
       go : (b : Bool) → joins e new ≡ b → IsSweeping edges old (marked e new) (added + from_bool (joins e new)) (suc n)
@@ -130,7 +130,7 @@ module _ (edges : List Edge) (old : List Bool) where
       go false h = subst (λ (b : Bool). IsSweeping edges old (cond b (set new e.from true) new) (added + from_bool b) (suc n)) (sym h) (same h)
 
   -- the same, by what a call made of the marks
-  pub swept-by : AreWithin edges (length old) → (new after : List Bool) (added more n k : ℕ) (e : Edge) → slice_get edges k ≡ Some e → n < length edges → k ≡ length edges - 1 - n → after ≡ marked e new → more ≡ from_bool (joins e new)
+  pub swept-by : AreWithin edges (length old) → (new after : List Bool) (added more n k : ℕ) (e : Edge L) → slice_get edges k ≡ Some e → n < length edges → k ≡ length edges - 1 - n → after ≡ marked e new → more ≡ from_bool (joins e new)
       → IsSweeping edges old new added n → IsSweeping edges old after (added + more) (n + 1)
   swept-by within new after added more n k e at lt is marks adds a =
       subst (λ (ms : List Bool). IsSweeping edges old ms (added + more) (n + 1)) (sym marks)
@@ -139,15 +139,15 @@ module _ (edges : List Edge) (old : List Bool) where
       (swept-on within new added n k e at (omega (arith, lt, is)) a)))
 
 -- marks that are led on, while they grow
-pub record IsMarking (edges : List Edge) (old new : List Bool) : Type 0 where
+pub record IsMarking {L : Type 0} (edges : List (Edge L)) (old new : List Bool) : Type 0 where
   pub long : length new ≡ length old
   pub kept : (i : ℕ) → is_marked old i ≡ true → is_marked new i ≡ true
   pub led : (i : ℕ) → is_marked new i ≡ true → IsLed edges old i
 
-pub no-marking : (edges : List Edge) (old : List Bool) → IsMarking edges old old
+pub no-marking : {L : Type 0} (edges : List (Edge L)) (old : List Bool) → IsMarking edges old old
 no-marking edges old = record { long = refl; kept = λ i h. h; led = λ i h. mark-led edges old i h }
 
-pub marking-on : (edges : List Edge) (old mid new : List Bool) (added n : ℕ) → IsMarking edges old mid → IsSweeping edges mid new added n → IsMarking edges old new
+pub marking-on : {L : Type 0} (edges : List (Edge L)) (old mid new : List Bool) (added n : ℕ) → IsMarking edges old mid → IsSweeping edges mid new added n → IsMarking edges old new
 marking-on edges old mid new added n a b = record {
   long = b.long ∙ a.long;
   kept = λ i h. b.kept i (a.kept i h);
@@ -155,7 +155,7 @@ marking-on edges old mid new added n a b = record {
 }
 
 -- where a sweep adds nothing, all are marked
-pub all_led : (edges : List Edge) (old mid new : List Bool) (added : ℕ) → added ≡ 0 → IsMarking edges old mid → IsSweeping edges mid new added (length edges) → AreAllLed edges old new
+pub all_led : {L : Type 0} (edges : List (Edge L)) (old mid new : List Bool) (added : ℕ) → added ≡ 0 → IsMarking edges old mid → IsSweeping edges mid new added (length edges) → AreAllLed edges old new
 all_led edges old mid new added none a b = record { long = all.long; each = λ i. (all.led i, λ led. back led.steps i led.end led.run (all.kept led.end led.marked)) }
   where
     all : IsMarking edges old new

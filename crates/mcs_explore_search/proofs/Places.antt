@@ -44,9 +44,9 @@ suc-up : (n j : ℕ) → suc n + j ≡ suc (n + j)
 suc-up n j = omega arith
 
 -- what is in the second part is as much further on
-pub at-behind : {A : Type 0} (E F : List A) (j : ℕ) (x : A) → slice_get F j ≡ Some x → slice_get (E ++ F) (length E + j) ≡ Some x
-at-behind [] F j x h = ap (λ (n : ℕ). slice_get F n) (zero-up j) ∙ h
-at-behind (e ∷ E) F j x h = ap (λ (n : ℕ). slice_get (e ∷ (E ++ F)) n) (suc-up (length E) j) ∙ at-behind E F j x h
+pub at-after : {A : Type 0} (E F : List A) (j : ℕ) (x : A) → slice_get F j ≡ Some x → slice_get (E ++ F) (length E + j) ≡ Some x
+at-after [] F j x h = ap (λ (n : ℕ). slice_get F n) (zero-up j) ∙ h
+at-after (e ∷ E) F j x h = ap (λ (n : ℕ). slice_get (e ∷ (E ++ F)) n) (suc-up (length E) j) ∙ at-after E F j x h
 
 pub at-within : {A : Type 0} (E : List A) (i : ℕ) (x : A) → slice_get E i ≡ Some x → i < length E
 at-within [] i x h = absurd cc

@@ -18,7 +18,7 @@ module _ {A : Type 0} (Step Like : A → A → Type 0) (likes : IsLikeness Step 
 module _ {A : Type 0} (Step Like : A → A → Type 0) (likes : IsLikeness Step Like) (s : A) (d : ℕ) (visited : List (Visit A)) (closed : IsClosedTo Step Like s d visited) where
   pub near-run : (n : ℕ) (t : A) → AreFar n d visited → Run Step s n t → IsVisited Like visited t n
   near-run zero t far run = subst (λ x. IsVisited Like visited x 0) run closed.start
-  near-run (suc n) t far run = behind (near-run n run.0 (λ i v le at. let h = far i v le at in omega (arith, h)) run.1.0)
+  near-run (suc n) t far run = led_to (near-run n run.0 (λ i v le at. let h = far i v le at in omega (arith, h)) run.1.0)
     where
       on : (f : IsVisited Like visited run.0 n) → (b : Bool) → nat_lt f.place d ≡ b → IsVisited Like visited t (suc n)
       on f true lt =
@@ -27,5 +27,5 @@ module _ {A : Type 0} (Step Like : A → A → Type 0) (likes : IsLikeness Step 
           record { place = g.place; visit = g.visit; at = g.at; like = likes.trans t step.0 g.visit.state step.1.1 g.like; near = let a = f.near in let b = g.near in omega (arith, a, b) }
       on f false ge = absurd (let h = far f.place f.visit (grind (arith, common_steps, ge)) f.at in let a = f.near in omega (arith, h, a))
 
-      behind : IsVisited Like visited run.0 n → IsVisited Like visited t (suc n)
-      behind f = on f (nat_lt f.place d) refl
+      led_to : IsVisited Like visited run.0 n → IsVisited Like visited t (suc n)
+      led_to f = on f (nat_lt f.place d) refl

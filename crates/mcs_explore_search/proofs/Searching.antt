@@ -9,7 +9,7 @@ use Rattle.mcs_explore_search.specs.Closure.{Visit, IsVisited}
 use Rattle.mcs_explore_search.specs.Search.{Entries, At, AreEdges, HasEdge, IsEdge, IsFound, Same, IsNext, IsAmong, AreNexts, path_back, parent_at, label_at, listed}
 use Rattle.mcs_explore_search.specs.Keeping.{Adds, HasPlace, IsAmid, IsChild, IsGrown, IsLinked, IsSearch, IsSearching, IsThere}
 use Rattle.mcs_explore_search.proofs.Paths.{path-on}
-use Rattle.mcs_explore_search.proofs.Places.{pair, some-same, same-place, at-old, at-last, at-within, at-split, at-either, at-behind, within-at, at-or-below, one-longer, one-up}
+use Rattle.mcs_explore_search.proofs.Places.{pair, some-same, same-place, at-old, at-last, at-within, at-split, at-either, at-after, within-at, at-or-below, one-longer, one-up}
 
 -- a key that is found stays found
 found-more : {K L : Type 0} (eq : K → K → Bool) (E F : Entries K L) (k : K) (n : ℕ) → IsFound eq E k n → IsFound eq (E ++ F) k n
@@ -157,42 +157,43 @@ module _ {A K L : Type 0} (eq : K → K → Bool) (fair : IsEquivalence eq) (Lea
       small i m p (inl h) = a.small i m p h
       small i m p (inr f) = let n = a.small d k r at in let e = depth-is m p f.1 in let b = within in let is = f.0 in omega (arith, n, e, b, is)
 
-  edge-more : (vs ws : List (Visit A)) (e : Edge) → IsEdge Leads Like vs e → IsEdge Leads Like (vs ++ ws) e
+  edge-more : (vs ws : List (Visit A)) (e : Edge L) → IsEdge Leads Like vs e → IsEdge Leads Like (vs ++ ws) e
   edge-more vs ws e a = record { from = a.from; at = at-old vs ws e.from a.from a.at; to = a.to; there = at-old vs ws e.to a.to a.there; state = a.state; step = a.step; like = a.like }
 
   -- edges stay where a visit comes to them
-  edges-more : (d : ℕ) (vs : List (Visit A)) (w : Visit A) (G : List Edge) → d ≤ length vs → AreEdges Leads Like d vs G → AreEdges Leads Like d (vs ++ w ∷ []) G
+  edges-more : (d : ℕ) (vs : List (Visit A)) (w : Visit A) (G : List (Edge L)) → d ≤ length vs → AreEdges Leads Like d vs G → AreEdges Leads Like d (vs ++ w ∷ []) G
   edges-more d vs w G few a = record {
     each = λ n e h. edge-more vs (w ∷ []) e (a.each n e h);
-    all = λ i x below h t step. all i x below (at-split vs w i x h) t step;
+    all = λ i x below h l t step. all i x below (at-split vs w i x h) l t step;
   }
     where
-      all : (i : ℕ) (x : Visit A) → i < d → (slice_get vs i ≡ Some x) ⊎ ((i ≡ length vs) × (x ≡ w)) → (t : A) → Steps Leads x.state t → HasEdge Like (vs ++ w ∷ []) G i t
-      all i x below (inl h) t step = let e : HasEdge Like vs G i t = a.all i x below h t step in
-          record { number = e.number; edge = e.edge; at = e.at; from = e.from; to = e.to; there = at-old vs (w ∷ []) e.edge.to e.to e.there; like = e.like }
-      all i x below (inr e) t step = absurd (let is = e.0 in omega (arith, below, is, few))
+      all : (i : ℕ) (x : Visit A) → i < d → (slice_get vs i ≡ Some x) ⊎ ((i ≡ length vs) × (x ≡ w)) → (l : L) (t : A) → Leads l x.state t → HasEdge Like (vs ++ w ∷ []) G i l t
+      all i x below (inl h) l t step = let e : HasEdge Like vs G i l t = a.all i x below h l t step in
+          record { number = e.number; edge = e.edge; at = e.at; from = e.from; label = e.label; to = e.to; there = at-old vs (w ∷ []) e.edge.to e.to e.there; like = e.like }
+      all i x below (inr e) l t step = absurd (let is = e.0 in omega (arith, below, is, few))
 
   place-more : (E F : Entries K L) (c : K) (n : ℕ) → HasPlace eq E c n → HasPlace eq (E ++ F) c n
   place-more E F c n a = record { other = a.other; found = a.found; at = at-old E F n (a.other, a.found) a.at; same = a.same }
 
   -- the edges below n, and the one at n
-  linked-one : (d : ℕ) (E F : Entries K L) (nexts : List (L × K)) (n : ℕ) (l : L) (c : K) (more : List Edge) (to : ℕ) → slice_get nexts n ≡ Some (l, c) → length more ≡ n → HasPlace eq (E ++ F) c to
-      → ((i : ℕ) (o : L) (b : K) → i < n → slice_get nexts i ≡ Some (o, b) → IsLinked eq E d more i b)
-      → (i : ℕ) (o : L) (b : K) → i < n + 1 → slice_get nexts i ≡ Some (o, b) → IsLinked eq (E ++ F) d (more ++ (record { from = d; to = to }) ∷ []) i b
+  linked-one : (d : ℕ) (E F : Entries K L) (nexts : List (L × K)) (n : ℕ) (l : L) (c : K) (more : List (Edge L)) (to : ℕ) → slice_get nexts n ≡ Some (l, c) → length more ≡ n → HasPlace eq (E ++ F) c to
+      → ((i : ℕ) (o : L) (b : K) → i < n → slice_get nexts i ≡ Some (o, b) → IsLinked eq E d more i o b)
+      → (i : ℕ) (o : L) (b : K) → i < n + 1 → slice_get nexts i ≡ Some (o, b) → IsLinked eq (E ++ F) d (more ++ (record { from = d; to = to; label = l }) ∷ []) i o b
   linked-one d E F nexts n l c more to nth few here old i o b lt h = go (at-or-below i n lt)
     where
-      e : Edge
-      e = record { from = d; to = to }
+      e : Edge L
+      e = record { from = d; to = to; label = l }
 
-      go : (i ≡ n) ⊎ (i < n) → IsLinked eq (E ++ F) d (more ++ e ∷ []) i b
+      go : (i ≡ n) ⊎ (i < n) → IsLinked eq (E ++ F) d (more ++ e ∷ []) i o b
       go (inl is) = record {
         edge = e;
         at = subst (λ (m : ℕ). slice_get (more ++ e ∷ []) m ≡ Some e) (few ∙ sym is) (at-last more e);
         from = refl;
+        label = ap (λ (x : L × K). x.0) (same-place nexts n i (l, c) (o, b) (sym is) nth h);
         to = subst (λ (x : K). HasPlace eq (E ++ F) x to) (ap (λ (x : L × K). x.1) (same-place nexts n i (l, c) (o, b) (sym is) nth h)) here;
       }
-      go (inr below) = let a : IsLinked eq E d more i b = old i o b below h in
-          record { edge = a.edge; at = at-old more (e ∷ []) i a.edge a.at; from = a.from; to = place-more E F b a.edge.to a.to }
+      go (inr below) = let a : IsLinked eq E d more i o b = old i o b below h in
+          record { edge = a.edge; at = at-old more (e ∷ []) i a.edge a.at; from = a.from; label = a.label; to = place-more E F b a.edge.to a.to }
 
   -- those below n, and the one at n
   and-one : (E : Entries K L) (nexts : List (L × K)) (n : ℕ) (l : L) (c : K) (m : ℕ) → slice_get nexts n ≡ Some (l, c) → IsFound eq E c m → ((i : ℕ) (o : L) (b : K) → i < n → slice_get nexts i ≡ Some (o, b) → IsFound eq E b m)
@@ -207,8 +208,8 @@ module _ {A K L : Type 0} (eq : K → K → Bool) (fair : IsEquivalence eq) (Lea
   no-more E = append-nil E
 
   -- one more of them, and its edge
-  pub amid : (d : ℕ) (E F : Entries K L) (k : K) (r q : Found L) (v : Visit A) (nexts : List (L × K)) (n : ℕ) (l : L) (c : K) (G H I : List Edge) (to : ℕ) → AreNexts Leads IsKey v.state nexts → slice_get nexts n ≡ Some (l, c)
-      → q.depth ≡ r.depth + 1 → q.parent ≡ d → q.label ≡ l → IsAmid eq Leads Like IsKey start d E k r v nexts n G H → Adds eq E c q F → HasPlace eq F c to → I ≡ H ++ (record { from = d; to = to }) ∷ []
+  pub amid : (d : ℕ) (E F : Entries K L) (k : K) (r q : Found L) (v : Visit A) (nexts : List (L × K)) (n : ℕ) (l : L) (c : K) (G H I : List (Edge L)) (to : ℕ) → AreNexts Leads IsKey v.state nexts → slice_get nexts n ≡ Some (l, c)
+      → q.depth ≡ r.depth + 1 → q.parent ≡ d → q.label ≡ l → IsAmid eq Leads Like IsKey start d E k r v nexts n G H → Adds eq E c q F → HasPlace eq F c to → I ≡ H ++ (record { from = d; to = to; label = l }) ∷ []
       → IsAmid eq Leads Like IsKey start d F k r v nexts (n + 1) G I
   amid d E F k r q v nexts n l c G H I to are nth deep parent labelled a (inl there) place pushed = subst (λ (D : Entries K L). IsAmid eq Leads Like IsKey start d D k r v nexts (n + 1) G I) (sym there.1) (record {
     visits = a.visits;
@@ -218,14 +219,14 @@ module _ {A K L : Type 0} (eq : K → K → Bool) (fair : IsEquivalence eq) (Lea
     found = and-one E nexts n l c (r.depth + 1) nth here a.found;
     before = a.before;
     more = a.more ++ e ∷ [];
-    longer = pushed ∙ ap (λ (es : List Edge). es ++ e ∷ []) a.longer ∙ append_assoc G a.more (e ∷ []);
+    longer = pushed ∙ ap (λ (es : List (Edge L)). es ++ e ∷ []) a.longer ∙ append_assoc G a.more (e ∷ []);
     few = one-longer a.more e ∙ ap (λ (m : ℕ). suc m) a.few ∙ sym (one-up n);
-    linked = λ i o b below h. subst (λ (D : Entries K L). IsLinked eq D d (a.more ++ e ∷ []) i b) (no-more E)
+    linked = λ i o b below h. subst (λ (D : Entries K L). IsLinked eq D d (a.more ++ e ∷ []) i o b) (no-more E)
         (linked-one d E [] nexts n l c a.more to nth a.few (subst (λ (D : Entries K L). HasPlace eq D c to) (there.1 ∙ sym (no-more E)) place) a.linked i o b below h);
   })
     where
-      e : Edge
-      e = record { from = d; to = to }
+      e : Edge L
+      e = record { from = d; to = to; label = l }
 
       here : IsFound eq E c (r.depth + 1)
       here = let t : IsThere eq E c = there.0 in record { place = t.place; other = t.other; found = t.found; at = t.at; same = t.same; near = a.search.near d t.place k t.other r t.found (omega arith) a.at t.at }
@@ -237,13 +238,13 @@ module _ {A K L : Type 0} (eq : K → K → Bool) (fair : IsEquivalence eq) (Lea
     found = and-one (E ++ (c, q) ∷ []) nexts n l c (r.depth + 1) nth here (λ i o b below h. found-more eq E _ b _ (a.found i o b below h));
     before = edges-more d a.visits w G (let b = at-within a.visits d v a.there in omega (arith, b)) a.before;
     more = a.more ++ e ∷ [];
-    longer = pushed ∙ ap (λ (es : List Edge). es ++ e ∷ []) a.longer ∙ append_assoc G a.more (e ∷ []);
+    longer = pushed ∙ ap (λ (es : List (Edge L)). es ++ e ∷ []) a.longer ∙ append_assoc G a.more (e ∷ []);
     few = one-longer a.more e ∙ ap (λ (m : ℕ). suc m) a.few ∙ sym (one-up n);
     linked = linked-one d E ((c, q) ∷ []) nexts n l c a.more to nth a.few (subst (λ (D : Entries K L). HasPlace eq D c to) new.1 place) a.linked;
   })
     where
-      e : Edge
-      e = record { from = d; to = to }
+      e : Edge L
+      e = record { from = d; to = to; label = l }
 
       next : IsNext Leads IsKey v.state l c
       next = are.each n l c nth
@@ -263,11 +264,11 @@ module _ {A K L : Type 0} (eq : K → K → Bool) (fair : IsEquivalence eq) (Lea
   AreAsGood = (s : A) (k c : K) → Same eq k c → IsKey s k → IsKey s c
 
   -- the place d was expanded
-  pub looked : AreAlike → AreAsGood → (d : ℕ) (E : Entries K L) (k : K) (r : Found L) (v : Visit A) (nexts : List (L × K)) (G H : List Edge) → AreNexts Leads IsKey v.state nexts → IsAmid eq Leads Like IsKey start d E k r v nexts (length nexts) G H
+  pub looked : AreAlike → AreAsGood → (d : ℕ) (E : Entries K L) (k : K) (r : Found L) (v : Visit A) (nexts : List (L × K)) (G H : List (Edge L)) → AreNexts Leads IsKey v.state nexts → IsAmid eq Leads Like IsKey start d E k r v nexts (length nexts) G H
       → IsSearching eq Leads Like IsKey start (d + 1) E H
   looked alike good d E k r v nexts G H are a = record {
     visits = a.visits;
-    edges = subst (λ (es : List Edge). AreEdges Leads Like (d + 1) a.visits es) (sym a.longer) (record { each = each; all = all });
+    edges = subst (λ (es : List (Edge L)). AreEdges Leads Like (d + 1) a.visits es) (sym a.longer) (record { each = each; all = all });
     is = record {
       long = a.search.long;
       first = a.search.first;
@@ -287,14 +288,14 @@ module _ {A K L : Type 0} (eq : K → K → Bool) (fair : IsEquivalence eq) (Lea
       deep : v.depth ≡ r.depth
       deep = let g : IsGrown Leads IsKey start E a.visits d k r = a.search.grown d k r a.at in ap (λ (x : Visit A). x.depth) (same-place a.visits d d v g.visit refl a.there g.there) ∙ g.deep
 
-      behind : (t : A) → Steps Leads v.state t → IsVisited Like a.visits t (v.depth + 1)
-      behind t step = record { place = f.place; visit = g.visit; at = g.there; like = like; near = let e = g.deep in let b = f.near in let is = deep in omega (arith, e, b, is) }
+      led_to : (t : A) → Steps Leads v.state t → IsVisited Like a.visits t (v.depth + 1)
+      led_to t step = record { place = f.place; visit = g.visit; at = g.there; like = like; near = let e = g.deep in let b = f.near in let is = deep in omega (arith, e, b, is) }
         where
-          one : IsAmong IsKey nexts t
+          one : IsAmong IsKey nexts step.0 t
           one = are.all step.0 t step.1
 
           f : IsFound eq E one.key (r.depth + 1)
-          f = a.found one.place one.label one.key (at-within nexts one.place (one.label, one.key) one.at) one.at
+          f = a.found one.place step.0 one.key (at-within nexts one.place (step.0, one.key) one.at) one.at
 
           g : IsGrown Leads IsKey start E a.visits f.place f.other f.found
           g = a.search.grown f.place f.other f.found f.at
@@ -310,15 +311,15 @@ module _ {A K L : Type 0} (eq : K → K → Bool) (fair : IsEquivalence eq) (Lea
           go (inr below) = a.search.closed i x below h t step
           go (inl e) =
               let same : v ≡ x = same-place a.visits d i v x (sym e) a.there h in
-              subst (λ (y : Visit A). IsVisited Like a.visits t (y.depth + 1)) same (behind t (subst (λ (y : Visit A). Steps Leads y.state t) (sym same) step))
+              subst (λ (y : Visit A). IsVisited Like a.visits t (y.depth + 1)) same (led_to t (subst (λ (y : Visit A). Steps Leads y.state t) (sym same) step))
 
       -- where an edge of these leads: a state that is like the one after the step
-      linked-like : (i : ℕ) (l : L) (c : K) (t : A) → Leads l v.state t → IsKey t c → (b : IsLinked eq E d a.more i c) → (g : IsGrown Leads IsKey start E a.visits b.edge.to b.to.other b.to.found) → Like t g.visit.state
+      linked-like : (i : ℕ) (l : L) (c : K) (t : A) → Leads l v.state t → IsKey t c → (b : IsLinked eq E d a.more i l c) → (g : IsGrown Leads IsKey start E a.visits b.edge.to b.to.other b.to.found) → Like t g.visit.state
       linked-like i l c t step key b g =
           alike (path_back E d r.depth ++ l ∷ []) (path_back E b.edge.to b.to.found.depth) t g.visit.state b.to.other
           (path-on Leads start (path_back E d r.depth) v.state t l (leads d k r a.at v a.there).0 step) (leads b.edge.to b.to.other b.to.found b.to.at g.visit g.there).0 (good t c b.to.other b.to.same key) g.key
 
-      each : (n : ℕ) (e : Edge) → slice_get (G ++ a.more) n ≡ Some e → IsEdge Leads Like a.visits e
+      each : (n : ℕ) (e : Edge L) → slice_get (G ++ a.more) n ≡ Some e → IsEdge Leads Like a.visits e
       each n e h = go (at-either G a.more n e h)
         where
           go : (slice_get G n ≡ Some e) ⊎ ((j : ℕ) × (slice_get a.more j ≡ Some e)) → IsEdge Leads Like a.visits e
@@ -329,17 +330,17 @@ module _ {A K L : Type 0} (eq : K → K → Bool) (fair : IsEquivalence eq) (Lea
               below = let b = at-within a.more new.0 e new.1 in let few = a.few in omega (arith, b, few)
 
               mine : ((x : L × K) × (slice_get nexts new.0 ≡ Some x)) → IsEdge Leads Like a.visits e
-              mine x = subst (λ (o : Edge). IsEdge Leads Like a.visits o) (same-place a.more new.0 new.0 b.edge e refl b.at new.1) (record {
+              mine x = subst (λ (o : Edge L). IsEdge Leads Like a.visits o) (same-place a.more new.0 new.0 b.edge e refl b.at new.1) (record {
                 from = v;
                 at = subst (λ (m : ℕ). slice_get a.visits m ≡ Some v) (sym b.from) a.there;
                 to = g.visit;
                 there = g.there;
                 state = next.state;
-                step = (x.0.0, next.step);
+                step = subst (λ (l : L). Leads l v.state next.state) (sym b.label) next.step;
                 like = linked-like new.0 x.0.0 x.0.1 next.state next.step next.key b g;
               })
                 where
-                  b : IsLinked eq E d a.more new.0 x.0.1
+                  b : IsLinked eq E d a.more new.0 x.0.0 x.0.1
                   b = a.linked new.0 x.0.0 x.0.1 below x.1
 
                   g : IsGrown Leads IsKey start E a.visits b.edge.to b.to.other b.to.found
@@ -348,42 +349,43 @@ module _ {A K L : Type 0} (eq : K → K → Bool) (fair : IsEquivalence eq) (Lea
                   next : IsNext Leads IsKey v.state x.0.0 x.0.1
                   next = are.each new.0 x.0.0 x.0.1 x.1
 
-      all : (i : ℕ) (x : Visit A) → i < d + 1 → slice_get a.visits i ≡ Some x → (t : A) → Steps Leads x.state t → HasEdge Like a.visits (G ++ a.more) i t
-      all i x lt h t step = go (at-or-below i d lt)
+      all : (i : ℕ) (x : Visit A) → i < d + 1 → slice_get a.visits i ≡ Some x → (l : L) (t : A) → Leads l x.state t → HasEdge Like a.visits (G ++ a.more) i l t
+      all i x lt h l t step = go (at-or-below i d lt)
         where
-          mine : Steps Leads v.state t → HasEdge Like a.visits (G ++ a.more) d t
+          mine : Leads l v.state t → HasEdge Like a.visits (G ++ a.more) d l t
           mine go = record {
             number = length G + one.place;
             edge = b.edge;
-            at = at-behind G a.more one.place b.edge b.at;
+            at = at-after G a.more one.place b.edge b.at;
             from = b.from;
+            label = b.label;
             to = g.visit;
             there = g.there;
-            like = linked-like one.place go.0 one.key t go.1 one.is b g;
+            like = linked-like one.place l one.key t go one.is b g;
           }
             where
-              one : IsAmong IsKey nexts t
-              one = are.all go.0 t go.1
+              one : IsAmong IsKey nexts l t
+              one = are.all l t go
 
-              b : IsLinked eq E d a.more one.place one.key
-              b = a.linked one.place one.label one.key (at-within nexts one.place (one.label, one.key) one.at) one.at
+              b : IsLinked eq E d a.more one.place l one.key
+              b = a.linked one.place l one.key (at-within nexts one.place (l, one.key) one.at) one.at
 
               g : IsGrown Leads IsKey start E a.visits b.edge.to b.to.other b.to.found
               g = a.search.grown b.edge.to b.to.other b.to.found b.to.at
 
-          go : (i ≡ d) ⊎ (i < d) → HasEdge Like a.visits (G ++ a.more) i t
-          go (inr below) = let e : HasEdge Like a.visits G i t = a.before.all i x below h t step in
-              record { number = e.number; edge = e.edge; at = at-old G a.more e.number e.edge e.at; from = e.from; to = e.to; there = e.there; like = e.like }
+          go : (i ≡ d) ⊎ (i < d) → HasEdge Like a.visits (G ++ a.more) i l t
+          go (inr below) = let e : HasEdge Like a.visits G i l t = a.before.all i x below h l t step in
+              record { number = e.number; edge = e.edge; at = at-old G a.more e.number e.edge e.at; from = e.from; label = e.label; to = e.to; there = e.there; like = e.like }
           go (inl e) =
               let same : v ≡ x = same-place a.visits d i v x (sym e) a.there h in
-              subst (λ (n : ℕ). HasEdge Like a.visits (G ++ a.more) n t) (sym e) (mine (subst (λ (y : Visit A). Steps Leads y.state t) (sym same) step))
+              subst (λ (n : ℕ). HasEdge Like a.visits (G ++ a.more) n l t) (sym e) (mine (subst (λ (y : Visit A). Leads l y.state t) (sym same) step))
 
   -- a search that has found its start alone
-  pub begun : AreAlike → (k : K) (r : Found L) (E F : Entries K L) (G : List Edge) → E ≡ [] → G ≡ [] → r.depth ≡ 0 → IsKey start k → Adds eq E k r F → IsSearching eq Leads Like IsKey start 0 F G
+  pub begun : AreAlike → (k : K) (r : Found L) (E F : Entries K L) (G : List (Edge L)) → E ≡ [] → G ≡ [] → r.depth ≡ 0 → IsKey start k → Adds eq E k r F → IsSearching eq Leads Like IsKey start 0 F G
   begun alike k r E F G empty none deep key (inl there) = let t : IsThere eq E k = there.0 in let no : slice_get [] t.place ≡ Some (pair t.other t.found) = ap (λ (G : Entries K L). slice_get G t.place) (sym empty) ∙ t.at in absurd cc
   begun alike k r E F G empty none deep key (inr new) = subst (λ (D : Entries K L). IsSearching eq Leads Like IsKey start 0 D G) (sym (new.1 ∙ ap (λ (D : Entries K L). D ++ (k, r) ∷ []) empty)) (record {
     visits = v ∷ [];
-    edges = subst (λ (es : List Edge). AreEdges Leads Like 0 (v ∷ []) es) (sym none) (record { each = λ n e h. absurd cc; all = λ i x below. absurd (omega (arith, below)) });
+    edges = subst (λ (es : List (Edge L)). AreEdges Leads Like 0 (v ∷ []) es) (sym none) (record { each = λ n e h. absurd cc; all = λ i x below. absurd (omega (arith, below)) });
     is = record {
       long = refl;
       first = record { place = 0; visit = v; at = refl; like = alike [] [] start start k refl refl key key; near = omega arith };

@@ -66,33 +66,34 @@ pub record IsSearch {A K L : Type 0} (eq : K → K → Bool) (Leads : L → A �
   pub small : (i : ℕ) (k : K) (f : Found L) → At E i k f → f.depth ≤ i
 
 -- there are such visits, with these edges between them
-pub record IsSearching {A K L : Type 0} (eq : K → K → Bool) (Leads : L → A → A → Type 0) (Like : A → A → Type 0) (IsKey : A → K → Type 0) (start : A) (d : ℕ) (E : Entries K L) (G : List Edge) : Type 0 where
+pub record IsSearching {A K L : Type 0} (eq : K → K → Bool) (Leads : L → A → A → Type 0) (Like : A → A → Type 0) (IsKey : A → K → Type 0) (start : A) (d : ℕ) (E : Entries K L) (G : List (Edge L)) : Type 0 where
   pub visits : List (Visit A)
   pub is : IsSearch eq Leads Like IsKey start d E visits
   pub edges : AreEdges Leads Like d visits G
 
 -- a search that has expanded one place more
-abbrev pub Goes : {A K L : Type 0} → (K → K → Bool) → (L → A → A → Type 0) → (A → A → Type 0) → (A → K → Type 0) → A → Entries K L → List Edge → ℕ → ℕ → List (L × K) → Entries K L → List Edge → Type 0
+abbrev pub Goes : {A K L : Type 0} → (K → K → Bool) → (L → A → A → Type 0) → (A → A → Type 0) → (A → K → Type 0) → A → Entries K L → List (Edge L) → ℕ → ℕ → List (L × K) → Entries K L → List (Edge L) → Type 0
 Goes {A = A} {K = K} {L = L} eq Leads Like IsKey start E G place depth nexts F H = (visits : List (Visit A)) (k : K) (f : Found L) (v : Visit A) → IsSearch eq Leads Like IsKey start place E visits → AreEdges Leads Like place visits G → At E place k f
     → slice_get visits place ≡ Some v → depth ≡ f.depth → AreNexts Leads IsKey v.state nexts → IsSearching eq Leads Like IsKey start (place + 1) F H
 
--- an edge of these, by its number, leads from the place d to that of a key
-pub record IsLinked {K L : Type 0} (eq : K → K → Bool) (E : Entries K L) (d : ℕ) (edges : List Edge) (i : ℕ) (c : K) : Type 0 where
-  pub edge : Edge
+-- an edge of these, by its number, leads by a label from the place d to that of a key
+pub record IsLinked {K L : Type 0} (eq : K → K → Bool) (E : Entries K L) (d : ℕ) (edges : List (Edge L)) (i : ℕ) (l : L) (c : K) : Type 0 where
+  pub edge : Edge L
   pub at : slice_get edges i ≡ Some edge
   pub from : edge.from ≡ d
+  pub label : edge.label ≡ l
   pub to : HasPlace eq E c edge.to
 
 -- the keys of the first n steps from the state in the place d are found, and have the edges that
 -- came last
-pub record IsAmid {A K L : Type 0} (eq : K → K → Bool) (Leads : L → A → A → Type 0) (Like : A → A → Type 0) (IsKey : A → K → Type 0) (start : A) (d : ℕ) (E : Entries K L) (k : K) (f : Found L) (v : Visit A) (nexts : List (L × K)) (n : ℕ) (G H : List Edge) : Type 0 where
+pub record IsAmid {A K L : Type 0} (eq : K → K → Bool) (Leads : L → A → A → Type 0) (Like : A → A → Type 0) (IsKey : A → K → Type 0) (start : A) (d : ℕ) (E : Entries K L) (k : K) (f : Found L) (v : Visit A) (nexts : List (L × K)) (n : ℕ) (G H : List (Edge L)) : Type 0 where
   pub visits : List (Visit A)
   pub search : IsSearch eq Leads Like IsKey start d E visits
   pub at : At E d k f
   pub there : slice_get visits d ≡ Some v
   pub found : (i : ℕ) (l : L) (c : K) → i < n → slice_get nexts i ≡ Some (l, c) → IsFound eq E c (f.depth + 1)
   pub before : AreEdges Leads Like d visits G
-  pub more : List Edge
+  pub more : List (Edge L)
   pub longer : H ≡ G ++ more
   pub few : length more ≡ n
-  pub linked : (i : ℕ) (l : L) (c : K) → i < n → slice_get nexts i ≡ Some (l, c) → IsLinked eq E d more i c
+  pub linked : (i : ℕ) (l : L) (c : K) → i < n → slice_get nexts i ≡ Some (l, c) → IsLinked eq E d more i l c

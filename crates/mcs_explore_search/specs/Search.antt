@@ -61,10 +61,9 @@ pub record IsNext {A K L : Type 0} (Leads : L → A → A → Type 0) (IsKey : A
   pub step : Leads l s state
   pub key : IsKey state k
 
--- a key of a state is among those
-pub record IsAmong {A K L : Type 0} (IsKey : A → K → Type 0) (nexts : List (L × K)) (t : A) : Type 0 where
+-- a key of a state is among those, with this label
+pub record IsAmong {A K L : Type 0} (IsKey : A → K → Type 0) (nexts : List (L × K)) (label : L) (t : A) : Type 0 where
   pub place : ℕ
-  pub label : L
   pub key : K
   pub at : slice_get nexts place ≡ Some (label, key)
   pub is : IsKey t key
@@ -72,7 +71,7 @@ pub record IsAmong {A K L : Type 0} (IsKey : A → K → Type 0) (nexts : List (
 -- the labels that lead from a state and the keys of where they lead, all of those
 pub record AreNexts {A K L : Type 0} (Leads : L → A → A → Type 0) (IsKey : A → K → Type 0) (s : A) (nexts : List (L × K)) : Type 0 where
   pub each : (i : ℕ) (l : L) (k : K) → slice_get nexts i ≡ Some (l, k) → IsNext Leads IsKey s l k
-  pub all : (l : L) (t : A) → Leads l s t → IsAmong IsKey nexts t
+  pub all : (l : L) (t : A) → Leads l s t → IsAmong IsKey nexts l t
 
 -- the state of an entry: a run of its depth leads to it along its path, and it has its key
 pub record IsReached {A K L : Type 0} (Leads : L → A → A → Type 0) (IsKey : A → K → Type 0) (start : A) (E : Entries K L) (i : ℕ) (k : K) (f : Found L) (s : A) : Type 0 where
@@ -117,33 +116,35 @@ pub record IsWhole {A K L : Type 0} (Leads : L → A → A → Type 0) (Like : A
   pub are : AreVisits Leads IsKey start E visits
   pub closed : IsClosed (Steps Leads) Like start visits
 
--- a step leads from the state in an edge's place to one that is like the state in its target
-pub record IsEdge {A L : Type 0} (Leads : L → A → A → Type 0) (Like : A → A → Type 0) (visits : List (Visit A)) (e : Edge) : Type 0 where
+-- the label of an edge leads from the state in its place to one like the state in its target
+pub record IsEdge {A L : Type 0} (Leads : L → A → A → Type 0) (Like : A → A → Type 0) (visits : List (Visit A)) (e : Edge L) : Type 0 where
   pub from : Visit A
   pub at : slice_get visits e.from ≡ Some from
   pub to : Visit A
   pub there : slice_get visits e.to ≡ Some to
   pub state : A
-  pub step : Steps Leads from.state state
+  pub step : Leads e.label from.state state
   pub like : Like state to.state
 
--- an edge leads from a place to that of a state which is like this one
-pub record HasEdge {A : Type 0} (Like : A → A → Type 0) (visits : List (Visit A)) (edges : List Edge) (i : ℕ) (t : A) : Type 0 where
+-- an edge with this label leads from a place to that of a state which is like this one
+pub record HasEdge {A L : Type 0} (Like : A → A → Type 0) (visits : List (Visit A)) (edges : List (Edge L)) (i : ℕ) (l : L) (t : A) : Type 0 where
   pub number : ℕ
-  pub edge : Edge
+  pub edge : Edge L
   pub at : slice_get edges number ≡ Some edge
   pub from : edge.from ≡ i
+  pub label : edge.label ≡ l
   pub to : Visit A
   pub there : slice_get visits edge.to ≡ Some to
   pub like : Like t to.state
 
--- each edge is a step, and each step from one of the first d visits has an edge
-pub record AreEdges {A L : Type 0} (Leads : L → A → A → Type 0) (Like : A → A → Type 0) (d : ℕ) (visits : List (Visit A)) (edges : List Edge) : Type 0 where
-  pub each : (n : ℕ) (e : Edge) → slice_get edges n ≡ Some e → IsEdge Leads Like visits e
-  pub all : (i : ℕ) (v : Visit A) → i < d → slice_get visits i ≡ Some v → (t : A) → Steps Leads v.state t → HasEdge Like visits edges i t
+-- each edge is a step by its label, and each step from one of the first d visits has an edge with
+-- its label
+pub record AreEdges {A L : Type 0} (Leads : L → A → A → Type 0) (Like : A → A → Type 0) (d : ℕ) (visits : List (Visit A)) (edges : List (Edge L)) : Type 0 where
+  pub each : (n : ℕ) (e : Edge L) → slice_get edges n ≡ Some e → IsEdge Leads Like visits e
+  pub all : (i : ℕ) (v : Visit A) → i < d → slice_get visits i ≡ Some v → (l : L) (t : A) → Leads l v.state t → HasEdge Like visits edges i l t
 
 -- visits of the start and of all entries, and the edges between them
-pub record IsGraph {A K L : Type 0} (Leads : L → A → A → Type 0) (Like : A → A → Type 0) (IsKey : A → K → Type 0) (start : A) (d : ℕ) (E : Entries K L) (G : List Edge) : Type 0 where
+pub record IsGraph {A K L : Type 0} (Leads : L → A → A → Type 0) (Like : A → A → Type 0) (IsKey : A → K → Type 0) (start : A) (d : ℕ) (E : Entries K L) (G : List (Edge L)) : Type 0 where
   pub visits : List (Visit A)
   pub are : AreVisits Leads IsKey start E visits
   pub first : IsVisited Like visits start 0

@@ -17,7 +17,7 @@ fn is_marked(marks: &[bool], place: u32) -> bool
 
 /// Marks the source of an edge, if the edge leads to a marked place and the source is not marked.
 /// Returns how many marks that adds.
-fn mark(edge: Edge, marks: &mut Vec<bool>) -> usize
+fn mark<L: Copy + Drop>(edge: Edge<L>, marks: &mut Vec<bool>) -> usize
     requires { edge.from < length marks.old.items }
     ensures marks { marks.new.items ≡ marked edge marks.old.items }
     ensures added { result ≡ from_bool (joins edge marks.old.items) }
@@ -31,7 +31,7 @@ fn mark(edge: Edge, marks: &mut Vec<bool>) -> usize
 
 /// Marks the source of each edge to a marked place, the last edge first, and returns how many marks
 /// that adds.
-fn sweep(edges: &[Edge], marks: &mut Vec<bool>) -> usize
+fn sweep<L: Copy + Drop>(edges: &[Edge<L>], marks: &mut Vec<bool>) -> usize
     requires { AreWithin edges.now (length marks.old.items) }
     ensures { IsSweeping edges.now marks.old.items marks.new.items result (length edges.now) }
 {
@@ -47,7 +47,7 @@ fn sweep(edges: &[Edge], marks: &mut Vec<bool>) -> usize
 
 /// Marks all places from which paths lead to marked ones.
 #[tactic(auto, using(crate::proofs::Marks::all_led))]
-pub fn mark_all_led(edges: &[Edge], marks: &mut Vec<bool>)
+pub fn mark_all_led<L: Copy + Drop>(edges: &[Edge<L>], marks: &mut Vec<bool>)
     requires { AreWithin edges.now (length marks.old.items) }
     ensures { AreAllLed edges.now marks.old.items marks.new.items }
 {

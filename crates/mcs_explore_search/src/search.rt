@@ -102,15 +102,14 @@ pub struct Found<L> {
     pub label: L,
 }
 
-/// A step from the state at one index to that at another.
+/// A step from the state at one index to that at another, by its label.
+// one for each step found: 32-bit indices halve their size
 #[derive(Clone, Copy, Drop)]
-pub struct Edge {
+pub struct Edge<L> {
     pub from: u32,
     pub to: u32,
+    pub label: L,
 }
-
-// one for each step found: 32-bit indices halve their size
-const _: () = prove!(size_of::<Edge>() == 8);
 
 /// The limits of a search.
 #[derive(Clone, Copy, Drop)]
@@ -127,7 +126,7 @@ pub struct Budget {
 pub struct Search<K: Eq + Hash + Drop, L: Copy + Drop> {
     pub map: IndexMap<K, Found<L>>,
     pub done: usize,
-    pub edges: Vec<Edge>,
+    pub edges: Vec<Edge<L>>,
     pub is_stopped: bool,
 }
 
@@ -152,13 +151,18 @@ fn add<K: Eq + Hash + Drop, L: Copy + Drop>(
 
 /// Adds the edge between two states. Fails if an allocation fails, or an index has more than 32
 /// bits.
-fn push_edge(edges: &mut Vec<Edge>, from: usize, to: usize) -> Result<(), AllocError>
+fn push_edge<L: Copy + Drop>(
+    edges: &mut Vec<Edge<L>>,
+    from: usize,
+    to: usize,
+    label: L,
+) -> Result<(), AllocError>
     ensures { OnOk result (edges.new.items
-        ≡ edges.old.items ++ (record { from = from; to = to }) ∷ []) }
+        ≡ edges.old.items ++ (record { from = from; to = to; label = label }) ∷ []) }
 {
     let from = narrow(from)?;
     let to = narrow(to)?;
-    edges.push(Edge { from, to })?;
+    edges.push(Edge { from, to, label })?;
     Ok(())
 }
 
@@ -260,11 +264,7 @@ fn narrow(number: usize) -> Result<u32, AllocError>
 
 /// Returns how a state is found by a label from the state at an index with this depth. Fails if a
 /// number has more than 32 bits.
-fn found_behind<L: Copy + Drop>(
-    place: usize,
-    depth: usize,
-    label: L,
-) -> Result<Found<L>, AllocError>
+fn found_after<L: Copy + Drop>(place: usize, depth: usize, label: L) -> Result<Found<L>, AllocError>
     requires room { depth + 1 < 2 ^ 64 }
     ensures parent { IfOk result (λ f. f.parent ≡ place) }
     ensures depth { IfOk result (λ f. f.depth ≡ depth + 1) }
@@ -282,7 +282,7 @@ fn found_behind<L: Copy + Drop>(
 /// Adds all steps from the state at an index with this depth, and the states that they lead to.
 fn add_all<M: System>(
     map: &mut IndexMap<M::Key, Found<M::Label>>,
-    edges: &mut Vec<Edge>,
+    edges: &mut Vec<Edge<M::Label>>,
     place: usize,
     depth: usize,
     nexts: Vec<(M::Label, M::Key)>,
@@ -296,9 +296,9 @@ fn add_all<M: System>(
     ensures from { OnOk result (AreFrom place map.old.entries map.new.entries) }
 {
     for (label, key) in nexts {
-        let found = found_behind(place, depth, label)?;
+        let found = found_after(place, depth, label)?;
         let to = add(map, key, found)?;
-        push_edge(edges, place, to)?;
+        push_edge(edges, place, to, label)?;
     }
     Ok(())
 }
@@ -353,7 +353,7 @@ fn nexts_of<M: System>(
 }
 
 /// Expands the earliest state that was not expanded yet.
-fn look_behind<M: System>(
+fn expand<M: System>(
     alloc: Global,
     system: &mut M,
     search: &mut Search<M::Key, M::Label>,
@@ -432,7 +432,7 @@ pub fn explore<M: System>(
 {
     let mut search = begin(alloc, system)?;
     while search.goes_on(budget) {
-        look_behind(alloc, system, &mut search)?;
+        expand(alloc, system, &mut search)?;
         search.is_stopped = !system.goes_on();
     }
     Ok(search)

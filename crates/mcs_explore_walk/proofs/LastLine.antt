@@ -1,4 +1,4 @@
--- The newest line of a book, and what it brought to threads.
+-- The newest line of a book, and what it delivered to threads.
 use Rattle.std.specs.Prelude.{◌≡◌, ◌-◌, ◌==◌, ◌++◌, Bool, false, cond, List, [], ◌∷◌, Some, None, length, reverse, slice_get}
 use Rattle.std.proofs.Common.{refl, ap, sym, ◌∙◌, arith}
 use Rattle.std.proofs.lemmas.Bool.{ne_eqb}
@@ -31,7 +31,7 @@ newest-there b k ls is =
 pub newest-is : (b : Book) (l k : Line) (ls : List Line) → b.lines ≡ k ∷ ls → line_of_number b (length b.lines) ≡ Some l → k ≡ l
 newest-is b l k ls is at = some-same k l (sym (newest-there b k ls is) ∙ at)
 
--- without a newest line nothing was brought
+-- without a newest line nothing was delivered
 pub brought_nothing : (b : Book) → line_of_number b (length b.lines) ≡ None → brought b ≡ []
 brought_nothing b at = go b.lines refl
   where
@@ -39,7 +39,7 @@ brought_nothing b at = go b.lines refl
     go [] none = ap (λ (ls : List Line). brought (record b { lines = ls })) none
     go (k ∷ ls) is = let gone = sym at ∙ newest-there b k ls is in absurd cc
 
--- the newest line brought what its records did
+-- the newest line delivered what its records did
 pub brought_by : (b : Book) (l : Line) → line_of_number b (length b.lines) ≡ Some l → brought b ≡ reached_from None l.records
 brought_by b l at = go b.lines refl
   where

@@ -110,7 +110,7 @@ best-next users g core n t below here i u p low can = go (nat_split i n low)
     go (inl h) = below i u p h can
     go (inr h) = here u p (subst (λ k. CanGive users g core k u p) h can)
 
--- the threads of two who can give in one place are one
+-- two threads of users that can give an entry in one place are the same
 one-thread : (users : List User) (g : Going) (core : CoreId) (n : ℕ) (k : Pick) (t : ObjId) (u : User) (p : Position) → Gives users g core n k t → CanGive users g core n u p → t ≡ u.thread
 one-thread users g core n k t u p gives can =
     gives.thread ∙ ap (λ (v : User). v.thread) (one-user users n gives.user u gives.can.user can.user)
@@ -128,8 +128,8 @@ module _ (users : List User) (g : Going) (n : ℕ) (offer : Offer) (k : Pick) (u
   below i v p low can = subst (λ t. GoesBefore (log_of g.book) t v.thread) its-thread (best.2 i v p low can)
 
   -- the best stays the best where it goes before the next one
-  pub goes_behind : GoesBefore (log_of g.book) u.thread offer.thread → IsBestBelow users g offer.core (n + 1) (Some k)
-  goes_behind goes = (
+  pub goes_after : GoesBefore (log_of g.book) u.thread offer.thread → IsBestBelow users g offer.core (n + 1) (Some k)
+  goes_after goes = (
     u.thread,
     subst (λ t. Gives users g offer.core k.user k t) its-thread best.1,
     best-next users g offer.core n u.thread below (λ v p can. subst (λ t. GoesBefore (log_of g.book) u.thread t) (one-thread users g offer.core n offer.pick offer.thread v p is.0 can) goes),

@@ -33,13 +33,13 @@ use Rattle.mcs_explore_walk.proofs.Picking.{nat_split, same-itself}
 
 -- threads that may enter, and each of which goes before the other, are one
 one-thread : (R : Log) (core : CoreId) (t u : ObjId) → may_enter R core t ≡ true → may_enter R core u ≡ true → GoesBefore R t u → GoesBefore R u t → t ≡ u
-one-thread R core t u enters other before behind =
+one-thread R core t u enters other before after =
     let a = before.priority in
-    let b = behind.priority in
+    let b = after.priority in
     let p : prio_of R u ≡ prio_of R t = omega (arith, a, b) in
     let q : prio_of R t ≡ prio_of R u = omega (arith, a, b) in
     let m = before.serial p in
-    let n = behind.serial q in
+    let n = after.serial q in
     let serials : t.serial ≡ u.serial = omega (arith, m, n) in
     let kinds = (enters-made R core t enters).0 ∙ sym (enters-made R core u other).0 in
     λ i. record { kind = kinds i; serial = serials i }

@@ -130,7 +130,7 @@ from-below g picks (suc n) = λ t c. go t (from-below g picks n t) (Contains-app
     go t rest (inl c) = rest c
     go t rest (inr c) = from-core g picks n t c
 
--- who may enter on a core after a legal book does so on a core of its boot
+-- a thread that may enter on a core after a legal book does so on a core of its boot
 core-below : (b : Book) (core : CoreId) (t : ObjId) → IsLegal b → may_enter (log_of b) core t ≡ true → core.0 < b.boot.cores
 core-below b core t legal enters =
     let s : Step = record { core = core; thread = t; entry = entry.NbWait 0 } in

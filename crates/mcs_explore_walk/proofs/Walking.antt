@@ -1,4 +1,4 @@
--- Who may enter, and what is known of him.
+-- Which thread may enter, and what is known of it.
 use Rattle.std.specs.Prelude.{ℕ, Bool, true, false, cond, ◌≡◌, ◌&&◌, Option, Some, None, option_and_then, Result, Err}
 use Rattle.std.specs.Option.{IfSome, IfNone}
 use Rattle.std.specs.Result.{IfErr}
@@ -79,7 +79,7 @@ on_kept (Some (Slots r)) core e = absurd cc
 on_kept (Some (Runner m r)) core e = absurd cc
 on_kept None core e = absurd cc
 
--- who is ready and holds a context enters on the core of that context alone
+-- a thread that is ready and holds a context enters on the core of that context alone
 pub with_context : (b : Book) (t s : ObjId) (status : Option Status) → IsLegal b → status ≡ status_of (log_of b) t → is_ready status ≡ true → context_of (log_of b) t ≡ Some s
     → IsEntryCore (log_of b) t (core_said (log_of b) s)
 with_context b t s status legal is ready holds = go (option_and_then core_kept (form_of R s)) refl (core_said R s) said

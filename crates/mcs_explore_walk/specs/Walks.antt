@@ -19,7 +19,7 @@ use Rattle.mcs_kernel.specs.declared.fault.EnterFault.TheVariants.{BookFull, Out
 use Rattle.mcs_explore_walk.specs.declared.walk.Offer.{Offer}
 use Rattle.mcs_explore_walk.specs.declared.walk.Turn.{Turn}
 
--- a thread may enter on some core
+-- there is a core on which the thread may enter
 pub record EntersSomewhere (R : Log) (t : ObjId) : Type 0 where
   pub core : CoreId
   pub enters : may_enter R core t ≡ true
@@ -53,8 +53,8 @@ IsBestBelow users g core n (Some k) = (t : ObjId) × Gives users g core k.user k
 pub record AreBestBelow (users : List User) (g : Going) (n : ℕ) (picks : List (Option Pick)) : Type 0 where
   pub each : (core : CoreId) (k : Option Pick) → slice_get picks core.0 ≡ Some k → IsBestBelow users g core n k
 
--- a pick is the due entry of a user who can give one, and whose thread goes before those of all
--- others who can
+-- a pick is the due entry of a user that can give one, and whose thread precedes those of all
+-- others that can
 pub record IsBest (users : List User) (g : Going) (core : CoreId) (k : Pick) : Type 0 where
   pub user : User
   pub place : Position
@@ -80,7 +80,7 @@ best_at ks i = best_by (slice_get ks i)
     best_by None = None
     best_by (Some k) = k
 
--- whether an entry that is skipped for this, if anything, is one of a thread that may enter
+-- whether the thread may enter, if its entry is skipped for this reason or is not skipped
 abbrev pub is_let_in : Option EnterFault → Bool
 is_let_in None = true
 is_let_in (Some BookFull) = true

@@ -1,26 +1,26 @@
-//! What a line brings to threads whose entries wait, and where their users continue.
+//! What a line delivers to threads whose entries wait, and where their users continue.
 ghost use Rattle.std.specs.Prelude.{◌≡◌, ◌<◌, IfSome, None, length, slice_get};
 ghost use Rattle.mcs_types.specs.declared.entry.Answer.TheVariants as answer;
 ghost use Rattle.mcs_packing.specs.Packing.{IsMessageAt, content_at};
 ghost use Rattle.mcs_book.specs.History.{line_of_number};
 ghost use Rattle.mcs_turns.specs.Mail.{got_with, reached_from, reaching, taken};
-ghost use Rattle.mcs_turns.specs.Turns.{all_told, place_told, told_all, told_if};
-ghost use Rattle.mcs_explore_walk.specs.Mail.{told_by};
+ghost use Rattle.mcs_turns.specs.Turns.{all_answered, place_answered, answered_all, answered_if};
+ghost use Rattle.mcs_explore_walk.specs.Mail.{answered_by};
 
 use mcs_book::Line;
 use mcs_kernel::Kernel;
 use mcs_packing::{KeptRecord, Packed, thread_id};
 use mcs_queues::Lines;
-use mcs_turns::{Position, Told};
+use mcs_turns::{AnswerRef, Position};
 use mcs_types::{Badge, Mode, ObjId, Rec};
-use mcs_users::{UserList, place_told};
+use mcs_users::{UserList, place_answered};
 use std::marker::Model;
 
 /// What reaches a thread, borrowed from the book. Clauses see it as `Reached`.
 #[derive(Drop)]
 pub struct Reaches<'a> {
     pub thread: ObjId,
-    pub told: Told<'a>,
+    pub answer: AnswerRef<'a>,
 }
 
 impl<'a> Model for Reaches<'a> {
@@ -28,7 +28,7 @@ impl<'a> Model for Reaches<'a> {
 
     ghost Value = { Reached };
 
-    ghost view = { λ r. record { thread = r.thread; answer = r.told } };
+    ghost view = { λ r. record { thread = r.thread; answer = r.answer } };
 }
 
 /// Returns the words of a message at a position.
@@ -41,15 +41,15 @@ fn words_at(words: &[u64], at: u32, len: u8) -> &[u64]
 }
 
 /// Returns that the message at a position was received.
-fn got_at<'a>(badge: Badge, words: &'a [u64], at: u32, len: u8) -> Told<'a>
+fn got_at<'a>(badge: Badge, words: &'a [u64], at: u32, len: u8) -> AnswerRef<'a>
     requires { IsMessageAt words.now at len }
     ensures { result ≡ answer.Got badge (content_at words.entry.now at len) }
 {
-    Told::got(badge, words[at as usize], words_at(words, at, len))
+    AnswerRef::got(badge, words[at as usize], words_at(words, at, len))
 }
 
-/// Returns what a taker would receive of the message last sent in a line, after one more record.
-fn got_with<'a>(got: Option<Told<'a>>, fact: &KeptRecord<'a>) -> Option<Told<'a>>
+/// Returns what a receiver would get of the message last sent in a line, after one more record.
+fn got_with<'a>(got: Option<AnswerRef<'a>>, fact: &KeptRecord<'a>) -> Option<AnswerRef<'a>>
     ensures { result ≡ got_with got.entry fact.now }
 {
     match fact.packed {
@@ -59,7 +59,7 @@ fn got_with<'a>(got: Option<Told<'a>>, fact: &KeptRecord<'a>) -> Option<Told<'a>
         }
         Packed::Wide { at } => match &fact.wide[*at as usize] {
             Rec::Sent { badge, message, .. } => {
-                Some(Told::got(*badge, message.label(), message.words()))
+                Some(AnswerRef::got(*badge, message.label(), message.words()))
             }
             _ => got,
         },
@@ -68,20 +68,20 @@ fn got_with<'a>(got: Option<Told<'a>>, fact: &KeptRecord<'a>) -> Option<Told<'a>
 }
 
 /// Returns what reaches a thread that takes this message, if the line sent it.
-fn taken<'a>(thread: ObjId, got: &Option<Told<'a>>) -> Option<Reaches<'a>>
+fn taken<'a>(thread: ObjId, got: &Option<AnswerRef<'a>>) -> Option<Reaches<'a>>
     ensures { result ≡ taken thread got.now }
 {
     match got {
-        Some(told) => Some(Reaches {
+        Some(answer) => Some(Reaches {
             thread,
-            told: told.again(),
+            answer: answer.again(),
         }),
         None => None,
     }
 }
 
 /// Returns what reaches a thread by a record that is kept unpacked.
-fn reaching_whole<'a>(got: &Option<Told<'a>>, fact: &'a Rec) -> Option<Reaches<'a>>
+fn reaching_whole<'a>(got: &Option<AnswerRef<'a>>, fact: &'a Rec) -> Option<Reaches<'a>>
     ensures { result ≡ reaching got.now fact.entry.now }
 {
     match fact {
@@ -92,18 +92,18 @@ fn reaching_whole<'a>(got: &Option<Told<'a>>, fact: &'a Rec) -> Option<Reaches<'
             ..
         } => Some(Reaches {
             thread: *caller,
-            told: Told::got(Badge(0), message.label(), message.words()),
+            answer: AnswerRef::got(Badge(0), message.label(), message.words()),
         }),
         Rec::Heard { thread, word, .. } => Some(Reaches {
             thread: *thread,
-            told: Told::heard(*word),
+            answer: AnswerRef::heard(*word),
         }),
         Rec::Turns {
             thread,
             mode: Mode::Running,
         } => Some(Reaches {
             thread: *thread,
-            told: Told::done(),
+            answer: AnswerRef::done(),
         }),
         _ => None,
     }
@@ -111,7 +111,7 @@ fn reaching_whole<'a>(got: &Option<Told<'a>>, fact: &'a Rec) -> Option<Reaches<'
 
 /// Returns what reaches a thread by a record; `got` is what a taker receives of the message last
 /// sent in the line.
-fn reaching<'a>(got: &Option<Told<'a>>, fact: &KeptRecord<'a>) -> Option<Reaches<'a>>
+fn reaching<'a>(got: &Option<AnswerRef<'a>>, fact: &KeptRecord<'a>) -> Option<Reaches<'a>>
     ensures { result ≡ reaching got.now fact.now }
 {
     match fact.packed {
@@ -123,18 +123,18 @@ fn reaching<'a>(got: &Option<Told<'a>>, fact: &KeptRecord<'a>) -> Option<Reaches
             ..
         } => Some(Reaches {
             thread: thread_id(*caller),
-            told: got_at(Badge(0), fact.words, *at, *len),
+            answer: got_at(Badge(0), fact.words, *at, *len),
         }),
         Packed::Heard { thread, at, .. } => Some(Reaches {
             thread: thread_id(*thread),
-            told: Told::heard(fact.words[*at as usize]),
+            answer: AnswerRef::heard(fact.words[*at as usize]),
         }),
         Packed::Turns {
             mode: Mode::Running,
             thread,
         } => Some(Reaches {
             thread: thread_id(*thread),
-            told: Told::done(),
+            answer: AnswerRef::done(),
         }),
         Packed::Wide { at } => reaching_whole(got, &fact.wide[*at as usize]),
         _ => None,
@@ -142,23 +142,23 @@ fn reaching<'a>(got: &Option<Told<'a>>, fact: &KeptRecord<'a>) -> Option<Reaches
 }
 
 /// Returns the position of a user after this reached a thread, its own or another.
-fn told_by(user: &UserList, reached: Option<Reaches<'_>>, place: Position) -> Position
-    ensures { result ≡ told_by user.now reached.entry place }
+fn answered_by(user: &UserList, reached: Option<Reaches<'_>>, place: Position) -> Position
+    ensures { result ≡ answered_by user.now reached.entry place }
 {
     let Some(reached) = reached else {
         return place;
     };
     if user.thread.is_same(reached.thread) {
-        place_told(user, &reached.told, place)
+        place_answered(user, &reached.answer, place)
     } else {
         place
     }
 }
 
 /// Returns the position of a user after a line of another user.
-#[tactic(auto, using(crate::proofs::Telling::told_nothing))]
-fn told_in(user: &UserList, line: &Line<'_>, place: Position) -> Position
-    ensures { result ≡ told_all (reached_from None line.now.records) user.now place }
+#[tactic(auto, using(crate::proofs::Telling::answered_nothing))]
+fn answered_in(user: &UserList, line: &Line<'_>, place: Position) -> Position
+    ensures { result ≡ answered_all (reached_from None line.now.records) user.now place }
 {
     if !user.has_program() {
         return place;
@@ -170,20 +170,26 @@ fn told_in(user: &UserList, line: &Line<'_>, place: Position) -> Position
             unreachable!();
         };
         got = got_with(got, &fact);
-        now = told_by(user, reaching(&got, &fact), now);
+        now = answered_by(user, reaching(&got, &fact), now);
     }
     now
 }
 
 /// Returns the position of the user at index `place` after a line of user `own`.
-fn told_at(line: &Line<'_>, own: usize, users: &[UserList], place: usize, now: Position) -> Position
-    ensures { result ≡ place_told (reached_from None line.now.records) own users.now place now }
+fn answered_at(
+    line: &Line<'_>,
+    own: usize,
+    users: &[UserList],
+    place: usize,
+    now: Position,
+) -> Position
+    ensures { result ≡ place_answered (reached_from None line.now.records) own users.now place now }
 {
     if place == own {
         return now;
     }
     match users.get(place) {
-        Some(user) => told_in(user, line, now),
+        Some(user) => answered_in(user, line, now),
         None => now,
     }
 }
@@ -191,11 +197,11 @@ fn told_at(line: &Line<'_>, own: usize, users: &[UserList], place: usize, now: P
 /// Advances all users but the one that entered past a line.
 pub fn tell_all(line: &Line<'_>, own: usize, users: &[UserList], places: &mut Vec<Position>)
     ensures { places.new.items
-        ≡ all_told (reached_from None line.now.records) own 0 users.now places.old.items }
+        ≡ all_answered (reached_from None line.now.records) own 0 users.now places.old.items }
 {
     for place in 0..places.len() {
         let now = places[place];
-        places[place] = told_at(line, own, users, place, now);
+        places[place] = answered_at(line, own, users, place, now);
     }
 }
 

@@ -9,7 +9,7 @@ ghost use Rattle.mcs_book.specs.Threads.{prio_of};
 ghost use Rattle.mcs_turns.specs.declared.position.Position.{Position};
 ghost use Rattle.mcs_turns.specs.Due.{is_same, none_stale, picks_at, stale_after};
 ghost use Rattle.mcs_turns.specs.Mail.{brought};
-ghost use Rattle.mcs_turns.specs.Turns.{Going, IsStale, ArePicks, IsOver, IsTurn, Follows, all_told, beginning, entered, put_at, saved_at, started};
+ghost use Rattle.mcs_turns.specs.Turns.{Going, IsStale, ArePicks, IsOver, IsTurn, Follows, all_answered, beginning, entered, put_at, saved_at, started};
 ghost use Rattle.mcs_explore_walk.specs.Walks.{AreBest, AreBestBelow, EntersSomewhere, HasEachTurn, HasNoTurn, IsBestBelow, IsEntrant, IsEntryCore, IsOffer, IsPicked, is_let_in, last_answer, left_stale, step_of};
 
 use crate::copies::copy_all;
@@ -19,7 +19,7 @@ use mcs_kernel::{Boot, EnterFault, Kernel};
 use mcs_queues::Lines;
 use mcs_turns::{Pick, Position, Saved, filled};
 use mcs_types::{Answer, CoreId, Entry, ObjId, OutOfMemory, Status, copy_rows};
-use mcs_users::{Picks, UserList, Users, first_place, place_behind, push};
+use mcs_users::{Picks, UserList, Users, first_place, place_after, push};
 use std::alloc::Global;
 use std::marker::Model;
 
@@ -394,10 +394,10 @@ impl<L: Lines> Walk<L> {
     }
 
     /// Advances all users but the one that entered past the newest line.
-    #[tactic(auto, using(crate::proofs::Telling::told_newest, crate::proofs::Telling::told_no_line))]
+    #[tactic(auto, using(crate::proofs::Telling::answered_newest, crate::proofs::Telling::answered_no_line))]
     fn tell(&mut self, users: &Users, own: usize)
         ensures { self.new ≡ record self.old {
-          places = all_told (brought self.old.book) own 0 users.now self.old.places;
+          places = all_answered (brought self.old.book) own 0 users.now self.old.places;
         } }
     {
         if let Some(line) = newest(&self.kernel) {
@@ -406,7 +406,7 @@ impl<L: Lines> Walk<L> {
     }
 
     /// Enters entry `number` of a user, whose thread may enter on the turn's core, and advances
-    /// this user and those whom its line reaches. `picks` are the current picks of the cores. After
+    /// this user and those that its line reaches. `picks` are the current picks of the cores. After
     /// an error nothing has changed.
     fn enter(
         &mut self,
@@ -428,7 +428,7 @@ impl<L: Lines> Walk<L> {
         let saved = self.saved(turn.pick.user);
         match self.kernel.enter(alloc, turn.core, list.thread, entry) {
             Ok(answer) => {
-                let place = place_behind(list, turn.pick.number, saved, &answer);
+                let place = place_after(list, turn.pick.number, saved, &answer);
                 put(&mut self.places, turn.pick.user, place);
                 self.stale = stale;
                 self.tell(users, turn.pick.user);

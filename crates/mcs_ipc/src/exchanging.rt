@@ -13,6 +13,14 @@ use mcs_object_queues::Waiting;
 use mcs_state::{State, wake};
 use mcs_types::{Answer, BOOK_LINES, Copies, CoreId, ObjId, SendMode};
 
+/// The addresses of the two capabilities of an exchange: what a thread sends over, and what it then
+/// receives from.
+#[derive(Clone, Copy)]
+pub struct Ends {
+    pub target: u64,
+    pub source: u64,
+}
+
 /// Sends without blocking, with the thread's context, and then receives.
 fn send_and_receive<W: Waiting>(
     state: &mut State<W>,
@@ -42,8 +50,7 @@ pub fn exchange<W: Waiting>(
     state: &mut State<W>,
     core: CoreId,
     thread: ObjId,
-    address: u64,
-    source: u64,
+    ends: Ends,
     reply: Option<u64>,
     message: Copies<'_>,
     answer: &mut Answer,
@@ -52,12 +59,13 @@ pub fn exchange<W: Waiting>(
     requires stand { OpenStand (so_far state.old) }
     requires waiting { OnlyBoundWait (so_far state.old) }
     requires few { length state.old.book.lines < BOOK_LINES }
-    requires room { Fits state.old core thread (exchange_entry address source reply message) }
-    ensures { Does state.old core thread (exchange_entry address source reply message.entry)
-        answer.new state.new }
+    requires room { Fits state.old core thread
+        (exchange_entry ends.target ends.source reply message) }
+    ensures { Does state.old core thread
+        (exchange_entry ends.target ends.source reply message.entry) answer.new state.new }
 {
     state.is_sound();
-    match ends_of_exchange(state, thread, address, source, reply) {
+    match ends_of_exchange(state, thread, ends.target, ends.source, reply) {
         Err(refusal) => *answer = Answer::Refused(refusal), // Nothing is sent yet.
         Ok(at) => {
             wake(state, thread);

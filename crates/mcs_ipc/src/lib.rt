@@ -12,7 +12,7 @@ mod sending;
 mod taking;
 
 pub use contexts::{bind_context, unbind_context};
-pub use exchanging::exchange;
+pub use exchanging::{Ends, exchange};
 pub use receiving::{receive, reply_receive};
 pub use replying::pay;
 pub use sending::{call, send};

@@ -21,6 +21,14 @@ use mcs_object_queues::Waiting;
 use mcs_state::{State, wake};
 use mcs_types::{BOOK_LINES, Badge, Cap, Copies, CoreId, Mode, ObjId, Queue, Refusal, SendMode};
 
+/// The way that a message goes: over which endpoint, with which badge, and how it is sent.
+#[derive(Clone, Copy)]
+struct Way {
+    endpoint: ObjId,
+    badge: Badge,
+    mode: SendMode,
+}
+
 /// Returns how a call over a capability is sent: without Grant and GrantReply it can get no reply
 /// (manual: Message Passing).
 fn call_mode(cap: &Cap) -> SendMode
@@ -69,28 +77,27 @@ fn send_alone<W: Waiting>(
 fn send_to<W: Waiting>(
     state: &mut State<W>,
     thread: ObjId,
-    endpoint: ObjId,
-    badge: Badge,
-    mode: SendMode,
+    way: Way,
     message: Copies<'_>,
     receiver: ObjId,
     blocks: bool,
 ) -> bool
-    requires sending { IsSending (so_far state.old) thread endpoint }
+    requires sending { IsSending (so_far state.old) thread way.endpoint }
     requires few { length state.old.book.lines < BOOK_LINES }
-    requires first { first_in (so_far state.old) (Queue.Receivers endpoint) ≡ Some receiver }
-    requires room { FitsAct (send_act blocks mode thread endpoint badge message) state.old }
-    ensures { Acts (send_act blocks mode thread endpoint badge message.entry) state.old
+    requires first { first_in (so_far state.old) (Queue.Receivers way.endpoint) ≡ Some receiver }
+    requires room { FitsAct (send_act blocks way.mode thread way.endpoint way.badge message)
+        state.old }
+    ensures { Acts (send_act blocks way.mode thread way.endpoint way.badge message.entry) state.old
         (said result) state.new }
 {
-    let queue = Queue::Receivers(endpoint);
+    let queue = Queue::Receivers(way.endpoint);
     state.is_sound();
     let reply = state.reply_with(receiver, queue);
-    state.hands(thread, endpoint, mode, badge, message, receiver);
+    state.hands(thread, way.endpoint, way.mode, way.badge, message, receiver);
     state.parts(receiver, queue);
-    settle(state, mode, thread, receiver, reply, false);
+    settle(state, way.mode, thread, receiver, reply, false);
     state.turns(receiver, Mode::Running);
-    waits(mode)
+    waits(way.mode)
 }
 
 /// Sends to an endpoint with a badge, or calls: the first receiver takes the message. If no thread
@@ -112,7 +119,16 @@ fn send_over<W: Waiting>(
 {
     match state.first(Queue::Receivers(endpoint)) {
         Some(receiver) => send_to(
-            state, thread, endpoint, badge, mode, message, receiver, blocks,
+            state,
+            thread,
+            Way {
+                endpoint,
+                badge,
+                mode,
+            },
+            message,
+            receiver,
+            blocks,
         ),
         None if blocks => send_alone(state, thread, endpoint, badge, mode, message),
         None => false,

@@ -24,7 +24,7 @@ use mcs_book::Book;
 use mcs_boots::{Boot, boot_state};
 use mcs_cancel::{cancel_badged, resume, set_priority, suspend};
 use mcs_caps::{copy_cap, delete_cap, make, mint_cap, move_cap};
-use mcs_ipc::{bind_context, call, exchange, receive, reply_receive, send, unbind_context};
+use mcs_ipc::{Ends, bind_context, call, exchange, receive, reply_receive, send, unbind_context};
 use mcs_notify::{bind, signal_at, unbind};
 use mcs_object_queues::{ObjectQueues, Waiting};
 use mcs_queues::Lines;
@@ -80,6 +80,13 @@ fn answer_send(answer: &mut Answer, waits: Result<bool, Refusal>)
     }
 }
 
+/// The thread that enters, and the core on which it does.
+#[derive(Clone, Copy)]
+struct Caller {
+    core: CoreId,
+    thread: ObjId,
+}
+
 // An entry that sends a message is a separate function, so that only it clears memory for what it
 // lends.
 
@@ -87,8 +94,7 @@ fn answer_send(answer: &mut Answer, waits: Result<bool, Refusal>)
 #[inline(always)]
 fn do_send<W: Waiting>(
     state: &mut State<W>,
-    core: CoreId,
-    thread: ObjId,
+    caller: Caller,
     cap: u64,
     message: &Message,
     long: Option<Box<Copied>>,
@@ -96,47 +102,50 @@ fn do_send<W: Waiting>(
     answer: &mut Answer,
 )
     requires copies { IsSpare long message.now }
-    requires entering { IsEntering (so_far state.old) thread }
+    requires entering { IsEntering (so_far state.old) caller.thread }
     requires stand { OpenStand (so_far state.old) }
     requires waiting { OnlyBoundWait (so_far state.old) }
     requires few { length state.old.book.lines < BOOK_LINES }
-    requires room { Fits state.old core thread (send_entry blocks cap message.now) }
+    requires room { Fits state.old caller.core caller.thread (send_entry blocks cap message.now) }
     requires done { answer.old ≡ Done }
-    ensures { Does state.old core thread (send_entry blocks cap message.now) answer.new state.new }
+    ensures { Does state.old caller.core caller.thread (send_entry blocks cap message.now)
+        answer.new state.new }
 {
     let copies = Copies { message, long };
-    answer_send(answer, send(state, core, thread, cap, copies, blocks))
+    answer_send(
+        answer,
+        send(state, caller.core, caller.thread, cap, copies, blocks),
+    )
 }
 
 /// Performs Call, with the copies of a long message.
 #[inline(always)]
 fn do_call<W: Waiting>(
     state: &mut State<W>,
-    core: CoreId,
-    thread: ObjId,
+    caller: Caller,
     cap: u64,
     message: &Message,
     long: Option<Box<Copied>>,
     answer: &mut Answer,
 )
     requires copies { IsSpare long message.now }
-    requires entering { IsEntering (so_far state.old) thread }
+    requires entering { IsEntering (so_far state.old) caller.thread }
     requires stand { OpenStand (so_far state.old) }
     requires few { length state.old.book.lines < BOOK_LINES }
-    requires room { Fits state.old core thread (Entry.Call cap message.now) }
+    requires room { Fits state.old caller.core caller.thread (Entry.Call cap message.now) }
     requires done { answer.old ≡ Done }
-    ensures { Does state.old core thread (Entry.Call cap message.now) answer.new state.new }
+    ensures { Does state.old caller.core caller.thread (Entry.Call cap message.now) answer.new
+        state.new }
 {
     let copies = Copies { message, long };
-    answer_send(answer, call(state, core, thread, cap, copies))
+    answer_send(answer, call(state, caller.core, caller.thread, cap, copies))
 }
 
 /// Performs ReplyRecv, with the copies of a long message.
 #[inline]
 fn do_reply_receive<W: Waiting>(
     state: &mut State<W>,
-    core: CoreId,
-    thread: ObjId,
+    caller: Caller,
     cap: u64,
     reply: u64,
     message: &Message,
@@ -144,40 +153,56 @@ fn do_reply_receive<W: Waiting>(
     answer: &mut Answer,
 )
     requires copies { IsSpare long message.now }
-    requires entering { IsEntering (so_far state.old) thread }
+    requires entering { IsEntering (so_far state.old) caller.thread }
     requires stand { OpenStand (so_far state.old) }
-    requires room { Fits state.old core thread (Entry.ReplyRecv cap reply message.now) }
-    ensures { Does state.old core thread (Entry.ReplyRecv cap reply message.now) answer.new
-        state.new }
+    requires room { Fits state.old caller.core caller.thread
+        (Entry.ReplyRecv cap reply message.now) }
+    ensures { Does state.old caller.core caller.thread (Entry.ReplyRecv cap reply message.now)
+        answer.new state.new }
 {
     let copies = Copies { message, long };
-    reply_receive(state, core, thread, cap, reply, copies, answer)
+    reply_receive(
+        state,
+        caller.core,
+        caller.thread,
+        cap,
+        reply,
+        copies,
+        answer,
+    )
 }
 
 /// Performs NBSendRecv if a reply object is named, and NBSendWait if not, with the copies of a long
 /// message.
 fn do_exchange<W: Waiting>(
     state: &mut State<W>,
-    core: CoreId,
-    thread: ObjId,
-    cap: u64,
-    source: u64,
+    caller: Caller,
+    ends: Ends,
     reply: Option<u64>,
     message: &Message,
     long: Option<Box<Copied>>,
     answer: &mut Answer,
 )
     requires copies { IsSpare long message.now }
-    requires entering { IsEntering (so_far state.old) thread }
+    requires entering { IsEntering (so_far state.old) caller.thread }
     requires stand { OpenStand (so_far state.old) }
     requires waiting { OnlyBoundWait (so_far state.old) }
     requires few { length state.old.book.lines < BOOK_LINES }
-    requires room { Fits state.old core thread (exchange_entry cap source reply message.now) }
-    ensures { Does state.old core thread (exchange_entry cap source reply message.now) answer.new
-        state.new }
+    requires room { Fits state.old caller.core caller.thread
+        (exchange_entry ends.target ends.source reply message.now) }
+    ensures { Does state.old caller.core caller.thread
+        (exchange_entry ends.target ends.source reply message.now) answer.new state.new }
 {
     let copies = Copies { message, long };
-    exchange(state, core, thread, cap, source, reply, copies, answer)
+    exchange(
+        state,
+        caller.core,
+        caller.thread,
+        ends,
+        reply,
+        copies,
+        answer,
+    )
 }
 
 /// Performs an entry of a thread that may enter: a table, with an arm for each entry. The copies of
@@ -202,14 +227,13 @@ fn operate<W: Waiting>(
     requires done { answer.old ≡ Done }
     ensures { Does state.old core thread entry.now answer.new state.new }
 {
+    let caller = Caller { core, thread };
     match entry {
-        Entry::Send { cap, message } => do_send(
-            state, core, thread, *cap, message, long, true, answer,
-        ),
+        Entry::Send { cap, message } => do_send(state, caller, *cap, message, long, true, answer),
         Entry::NbSend { cap, message } => do_send(
-            state, core, thread, *cap, message, long, false, answer,
+            state, caller, *cap, message, long, false, answer,
         ),
-        Entry::Call { cap, message } => do_call(state, core, thread, *cap, message, long, answer),
+        Entry::Call { cap, message } => do_call(state, caller, *cap, message, long, answer),
         Entry::Recv { cap, reply } => receive(
             state,
             core,
@@ -234,7 +258,7 @@ fn operate<W: Waiting>(
             cap,
             reply,
             message,
-        } => do_reply_receive(state, core, thread, *cap, *reply, message, long, answer),
+        } => do_reply_receive(state, caller, *cap, *reply, message, long, answer),
         Entry::NbSendRecv {
             cap,
             source,
@@ -242,10 +266,11 @@ fn operate<W: Waiting>(
             message,
         } => do_exchange(
             state,
-            core,
-            thread,
-            *cap,
-            *source,
+            caller,
+            Ends {
+                target: *cap,
+                source: *source,
+            },
             Some(*reply),
             message,
             long,
@@ -256,7 +281,16 @@ fn operate<W: Waiting>(
             source,
             message,
         } => do_exchange(
-            state, core, thread, *cap, *source, None, message, long, answer,
+            state,
+            caller,
+            Ends {
+                target: *cap,
+                source: *source,
+            },
+            None,
+            message,
+            long,
+            answer,
         ),
         Entry::Signal { cap } => answer_plain(answer, signal_at(state, core, thread, *cap)),
         Entry::SetPriority {

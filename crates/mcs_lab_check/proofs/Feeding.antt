@@ -4,5 +4,5 @@ use Rattle.mcs_phases.specs.Going.{Going, Takes, answer_of, fed}
 
 -- where no fault ended it, it took all
 pub fed_whole : (old : Going) (bytes : List ℕ) (new : Going) → Takes old bytes new → answer_of new.course.fault ≡ Ok tt → new ≡ fed old bytes
-fed_whole old bytes new (inl e) told = e
-fed_whole old bytes new (inr r) told = let stopped = ap (λ (g : Going). answer_of g.course.fault) r.stopped in cc
+fed_whole old bytes new (inl e) no_fault = e
+fed_whole old bytes new (inr r) no_fault = let stopped = ap (λ (g : Going). answer_of g.course.fault) r.stopped in cc

@@ -1,5 +1,4 @@
 pub mod Finding
 pub mod Feeding
-pub mod Holders
 pub mod NamesHad
 pub mod GivenTo

@@ -45,7 +45,7 @@ seen-found test (e ∷ es) = go (test e.0) (seen-found test es)
     go false h = h
 
 -- the name of an object is what is found under its number
-found-seen : (es : List (ℕ × Vec ℕ)) (o : ObjId) (key : ℕ) → key ≡ key_of o → name_in (seen es) o ≡ option_map (λ (v : Vec ℕ). v.items) (lookup (λ n. key == n) es)
+pub found-seen : (es : List (ℕ × Vec ℕ)) (o : ObjId) (key : ℕ) → key ≡ key_of o → name_in (seen es) o ≡ option_map (λ (v : Vec ℕ). v.items) (lookup (λ n. key == n) es)
 found-seen es o key is = seen-found (λ n. key_of o == n) es ∙ ap (λ (k : ℕ). option_map (λ (v : Vec ℕ). v.items) (lookup (λ n. k == n) es)) (sym is)
 
 -- an object has the name that is found under its number, or none

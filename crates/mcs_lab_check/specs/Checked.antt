@@ -9,8 +9,8 @@ use Rattle.mcs_lab_check.specs.declared.asking.Asked.{Asked}
 use Rattle.mcs_lab_check.specs.declared.asking.Asked.TheVariants as asked
 use Rattle.mcs_lab_check.specs.declared.last.Last.{Last}
 use Rattle.mcs_lab_check.specs.declared.last.Last.TheVariants.{NoStep, Away, LetIn}
-use Rattle.mcs_lab_check.specs.declared.last.Told.{Told}
-use Rattle.mcs_lab_check.specs.declared.last.Told.TheVariants as told
+use Rattle.mcs_lab_check.specs.declared.last.LineResult.{LineResult}
+use Rattle.mcs_lab_check.specs.declared.last.LineResult.TheVariants as line_result
 
 -- a script that is checked: its replay, whether its last step was accepted, and the text of that
 -- step
@@ -33,14 +33,14 @@ last_of before after = cond (line_count after == line_count before) Away (LetIn 
 
 -- the verdict of a line that is no remark, before which the book was this one; while the boot
 -- continues it is no step
-abbrev pub stepped : Option Book → Option Book → Checked → List ℕ → Told × Checked
-stepped before None c text = (told.Nothing, c)
-stepped before (Some b) c text = (told.Step, record c { last = last_of before (Some b); step = text })
+abbrev pub stepped : Option Book → Option Book → Checked → List ℕ → LineResult × Checked
+stepped before None c text = (line_result.Nothing, c)
+stepped before (Some b) c text = (line_result.Step, record c { last = last_of before (Some b); step = text })
 
 -- the verdict of a line of a record: what is before the record that is found is passed over
-abbrev pub with_found : Option (ℕ × ℕ) → Checked → Told × Checked
-with_found None c = (told.Record false, c)
-with_found (Some at) c = (told.Record true, record c { last = LetIn at.0 at.1 })
+abbrev pub with_found : Option (ℕ × ℕ) → Checked → LineResult × Checked
+with_found None c = (line_result.Record false, c)
+with_found (Some at) c = (line_result.Record true, record c { last = LetIn at.0 at.1 })
 
 -- whether the answer to a question is yes
 abbrev pub is_so : Checked → List ℕ → Asked → Bool
@@ -48,9 +48,9 @@ is_so c text (asked.Away why) = was_away c.last (reason (book_of c) c.step) why 
 is_so c text (asked.State q) = says_so (book_of c) q text
 
 -- the verdict of a question
-abbrev pub answered : Checked → List ℕ → Option Asked → Told
-answered c text None = told.NoQuestion
-answered c text (Some a) = told.Asked (is_so c text a)
+abbrev pub answered : Checked → List ℕ → Option Asked → LineResult
+answered c text None = line_result.NoQuestion
+answered c text (Some a) = line_result.Asked (is_so c text a)
 
 -- what follows `#? ` on a line, without the newline
 abbrev pub question_text : List ℕ → Option (List ℕ)
@@ -60,18 +60,18 @@ question_text (a ∷ []) = None
 question_text [] = None
 
 -- the verdict of a remark
-abbrev pub remarked : Checked → Option (List ℕ) → Told
-remarked c None = told.Nothing
+abbrev pub remarked : Checked → Option (List ℕ) → LineResult
+remarked c None = line_result.Nothing
 remarked c (Some text) = answered c text (asked_of text)
 
 -- the verdict of a line by its first byte, where the replay has taken it, and before it the book
 -- was this one
-abbrev pub judged_by : Option Book → Checked → ℕ → List ℕ → Told × Checked
+abbrev pub judged_by : Option Book → Checked → ℕ → List ℕ → LineResult × Checked
 judged_by before c b text =
-    cond (b == 61) (told.Answer (answers_so c.last (newest (book_of c)) text), c)
+    cond (b == 61) (line_result.Answer (answers_so c.last (newest (book_of c)) text), c)
     (cond (b == 43) (with_found (found c.last (newest (book_of c)) text) c)
     (cond (b == 35) (remarked c (question_text text), c)
-    (cond (b == 10) (told.Nothing, c)
+    (cond (b == 10) (line_result.Nothing, c)
     (stepped before (book_of c) c text))))
 
 -- with a line more, which ends in a newline
@@ -79,11 +79,11 @@ abbrev pub fed_line : Checked → List ℕ → Checked
 fed_line c text = record c { run = fed c.run text }
 
 -- the verdict of a line, which ends in a newline, and the script after it
-abbrev pub judged : Checked → List ℕ → Told × Checked
-judged c [] = (told.Nothing, fed_line c [])
+abbrev pub judged : Checked → List ℕ → LineResult × Checked
+judged c [] = (line_result.Nothing, fed_line c [])
 judged c (b ∷ bs) = judged_by (book_of c) (fed_line c (b ∷ bs)) b (b ∷ bs)
 
 -- the verdicts on the lines of a script, in their order
-abbrev pub verdicts : Checked → List (List ℕ) → List Told
+abbrev pub verdicts : Checked → List (List ℕ) → List LineResult
 verdicts c [] = []
 verdicts c (l ∷ ls) = (judged c l).0 ∷ verdicts (judged c l).1 ls

@@ -79,12 +79,6 @@ abbrev pub named_of : List ObjId → Named
 named_of [] = named.Nothing
 named_of (o ∷ os) = cond (list_all (same o) os) (named.One o) named.Several
 
--- what is named with one object more
-abbrev pub with_found : Named → ObjId → Named
-with_found named.Nothing o = named.One o
-with_found (named.One p) o = cond (same p o) (named.One p) named.Several
-with_found named.Several o = named.Several
-
 -- what a word names
 abbrev pub what_named : List Naming → List ℕ → Named
 what_named gs word = named_of (map (λ (g : Naming). g.object) (filter (gives gs word) gs))

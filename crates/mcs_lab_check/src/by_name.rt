@@ -1,15 +1,15 @@
-//! The objects that each name was given to, by names.
+//! The objects that have each name, by names.
 ghost use Rattle.std.specs.Prelude.{◌≡◌, ℕ, [], ◌∷◌, List, None, OnOk, OnErr, bytes_eq};
 ghost use Rattle.std.specs.Map.{lookup};
 ghost use Rattle.mcs_types.specs.declared.id.ObjId.{ObjId};
-ghost use Rattle.mcs_lab_check.specs.GivenTo.{given_to, with_last, but_last};
+ghost use Rattle.mcs_lab_check.specs.GivenTo.{but_last, given_to, with_last, without, without_object};
 
 use indexmap::IndexMap;
 use mcs_types::ObjId;
 use std::alloc::{AllocError, Global};
 use std::marker::Model;
 
-/// The objects that each name was given to, in order, so that lookup needs no search.
+/// The objects that have each name now, so that lookup needs no search.
 #[derive(Drop)]
 pub struct ByName {
     objects: IndexMap<Vec<u8>, Vec<ObjId>>,
@@ -24,6 +24,13 @@ impl Model for ByName {
     ghost view = { λ h. map (λ e. (e.0.items, e.1.items)) h.objects.entries };
 }
 
+/// Removes an object.
+fn remove_object(objects: &mut Vec<ObjId>, object: ObjId)
+    ensures { objects.new.items ≡ without_object object objects.old.items }
+{
+    objects.retain(|other| !object.is_same(*other));
+}
+
 impl ByName {
     /// Returns an empty table.
     pub fn new(alloc: Global) -> ByName
@@ -34,7 +41,7 @@ impl ByName {
         }
     }
 
-    /// Returns the objects that a name was given to, in order.
+    /// Returns the objects that have a name.
     pub fn of(&self, name: &[u8]) -> &[ObjId]
         ensures { result.now ≡ given_to self.now name.now }
     {
@@ -58,7 +65,7 @@ impl ByName {
         Ok(())
     }
 
-    /// Adds an object to those that a name was given to.
+    /// Adds an object to those that have a name.
     pub fn add(&mut self, alloc: Global, name: &[u8], object: ObjId) -> Result<(), AllocError>
         ensures added { OnOk result ((q : List ℕ) → given_to self.new q
             ≡ with_last name.now object (given_to self.old q) q) }
@@ -72,7 +79,7 @@ impl ByName {
         self.add_first(alloc, name, object)
     }
 
-    /// Takes back the object that a name was given to last.
+    /// Takes back the object that was added last to those that have a name.
     pub fn take_back(&mut self, name: &[u8])
         ensures { (q : List ℕ) → given_to self.new q ≡ but_last name.now (given_to self.old q) q }
     {
@@ -80,5 +87,16 @@ impl ByName {
             return;
         };
         objects.pop();
+    }
+
+    /// Takes an object from those that have a name.
+    pub fn remove(&mut self, name: &[u8], object: ObjId)
+        ensures { (q : List ℕ) → given_to self.new q
+            ≡ without name.now object (given_to self.old q) q }
+    {
+        let Some(objects) = self.objects.get_mut(name) else {
+            return;
+        };
+        remove_object(objects, object);
     }
 }

@@ -1,8 +1,8 @@
 //! Checks the expectations of a script, and writes the verdicts as TAP.
 use crate::fault::{LabFault, Reason};
 use crate::judging::Judge;
-use crate::last::{Last, Told};
-use crate::names::Names;
+use crate::last::{Last, LineResult};
+use crate::names::Labels;
 use crate::reading::{TakesLines, take_lines};
 use crate::tap::{bare, is_plain, put_description, put_quoted};
 use crate::text::Text;
@@ -16,10 +16,10 @@ use std::io::{self, Read, Write};
 #[derive(Drop)]
 struct Checker<W> {
     judge: Judge,
-    names: Names,
+    names: Labels,
     spelled: Box<Line>,
     verdict: Text,
-    told: u64,
+    reported: u64,
     failed: u64,
     to: W,
 }
@@ -78,10 +78,10 @@ impl<W: Write + Drop> Checker<W> {
         } = parts;
         Checker {
             judge,
-            names: Names::new(alloc),
+            names: Labels::new(alloc),
             spelled,
             verdict,
-            told: 0,
+            reported: 0,
             failed: 0,
             to,
         }
@@ -89,14 +89,14 @@ impl<W: Write + Drop> Checker<W> {
 
     /// Writes the first line of a verdict.
     fn put_verdict(&mut self, holds: bool, said: &[u8]) -> Result<(), LabFault> {
-        self.told = self.told.saturating_add(1);
+        self.reported = self.reported.saturating_add(1);
         self.verdict.clear();
         if !holds {
             self.failed = self.failed.saturating_add(1);
             self.verdict.put(b"not ")?;
         }
         self.verdict.put(b"ok ")?;
-        self.verdict.word(&Token::Number(self.told))?;
+        self.verdict.word(&Token::Number(self.reported))?;
         self.verdict.put(b" - line ")?;
         self.verdict.word(&Token::Number(self.judge.line()))?;
         self.verdict.put(b": ")?;
@@ -191,13 +191,13 @@ impl<W: Write + Drop> Checker<W> {
 
     /// Writes how many verdicts there were, which TAP calls the plan.
     fn put_plan(&mut self) -> io::Result<()> {
-        let told = self.told;
-        if told == 0 {
+        let reported = self.reported;
+        if reported == 0 {
             return self
                 .to
                 .write_all(b"1..0 # SKIP nothing is said of any step\n");
         }
-        writeln!(self.to, "1..{told}")
+        writeln!(self.to, "1..{reported}")
     }
 
     /// Ends the input. Returns whether all expectations hold.
@@ -212,12 +212,12 @@ impl<W: Write + Drop> TakesLines for Checker<W> {
     fn take_line(&mut self, alloc: Global, line: &[u8]) -> Result<(), LabFault> {
         let said = bare(line);
         match self.judge.take(alloc, line)? {
-            Told::Step => {}
-            Told::Nothing => self.names.hear(alloc, self.judge.line(), line)?,
-            Told::Answer { holds } => self.tell(holds, About::Answer, said)?,
-            Told::Record { holds } => self.tell(holds, About::Record, said)?,
-            Told::Asked { holds } => self.tell(holds, About::State, asked(said))?,
-            Told::NoQuestion => {
+            LineResult::Step => {}
+            LineResult::Nothing => self.names.hear(alloc, self.judge.line(), line)?,
+            LineResult::Answer { holds } => self.tell(holds, About::Answer, said)?,
+            LineResult::Record { holds } => self.tell(holds, About::Record, said)?,
+            LineResult::Asked { holds } => self.tell(holds, About::State, asked(said))?,
+            LineResult::NoQuestion => {
                 return Err(LabFault::Form {
                     line: self.judge.line(),
                 });

@@ -10,7 +10,7 @@ ghost use Rattle.mcs_lab_check.specs.Checked.{unread, book_of, fed_line, last_of
 
 use crate::asking::{Asked, Question, asked_of};
 use crate::fault::LabFault;
-use crate::last::{Last, Told};
+use crate::last::{Last, LineResult};
 use crate::seeing::see;
 use crate::text::Text;
 use crate::words::{number_of, object_of};
@@ -261,15 +261,15 @@ impl Judge {
     }
 
     /// Judges a line `+`.
-    fn take_record(&mut self, text: &[u8]) -> Told
+    fn take_record(&mut self, text: &[u8]) -> LineResult
         ensures { (result, self.new)
             ≡ with_found (found self.old.last (newest (book_of self.old)) text.now) self.old }
     {
         let Some((next, sent)) = self.found(text) else {
-            return Told::Record { holds: false };
+            return LineResult::Record { holds: false };
         };
         self.last = Last::LetIn { next, sent };
-        Told::Record { holds: true }
+        LineResult::Record { holds: true }
     }
 
     /// Returns why the last step was skipped: nothing has changed since.
@@ -311,22 +311,22 @@ impl Judge {
     }
 
     /// Judges a line `#?`.
-    fn answer(&mut self, text: &[u8]) -> Result<Told, LabFault>
-        ensures told { IfOk result
-            (λ told. told ≡ answered self.old text.now (asked_of text.now)) }
+    fn answer(&mut self, text: &[u8]) -> Result<LineResult, LabFault>
+        ensures line_result { IfOk result
+            (λ line_result. line_result ≡ answered self.old text.now (asked_of text.now)) }
         ensures same { OnOk result (self.new ≡ self.old) }
     {
         let holds = match asked_of(text) {
-            None => return Ok(Told::NoQuestion),
+            None => return Ok(LineResult::NoQuestion),
             Some(Asked::Away { why }) => self.was_away(why, text)?,
             Some(Asked::State { question }) => self.says_so(&question, text)?,
         };
-        Ok(Told::Asked { holds })
+        Ok(LineResult::Asked { holds })
     }
 
     /// Takes a line of the boot, or of a step.
-    fn take_step(&mut self, alloc: Global, text: &[u8]) -> Result<Told, LabFault>
-        ensures { IfOk result (λ told. (told, self.new)
+    fn take_step(&mut self, alloc: Global, text: &[u8]) -> Result<LineResult, LabFault>
+        ensures { IfOk result (λ line_result. (line_result, self.new)
             ≡ stepped (book_of self.old) (book_of (fed_line self.old text.now))
             (fed_line self.old text.now) text.now) }
     {
@@ -334,7 +334,7 @@ impl Judge {
         let sent = count_sent(&self.run);
         self.feed(alloc, text)?;
         if self.run.kernel().is_none() {
-            return Ok(Told::Nothing);
+            return Ok(LineResult::Nothing);
         }
         if count_lines(&self.run) == before {
             self.last = Last::Away;
@@ -348,18 +348,18 @@ impl Judge {
         self.step_line = self.lines;
         self.step.clear();
         self.step.extend_from_slice(text)?;
-        Ok(Told::Step)
+        Ok(LineResult::Step)
     }
 
     /// Judges a line, which ends in a newline.
-    pub fn take(&mut self, alloc: Global, text: &[u8]) -> Result<Told, LabFault>
-        ensures { IfOk result (λ told. (told, self.new) ≡ judged self.old text.now) }
+    pub fn take(&mut self, alloc: Global, text: &[u8]) -> Result<LineResult, LabFault>
+        ensures { IfOk result (λ line_result. (line_result, self.new) ≡ judged self.old text.now) }
     {
         match text {
             [b'=', ..] => {
                 self.feed(alloc, text)?;
                 let holds = self.answers_so(text);
-                Ok(Told::Answer { holds })
+                Ok(LineResult::Answer { holds })
             }
             [b'+', ..] => {
                 self.feed(alloc, text)?;
@@ -368,13 +368,13 @@ impl Judge {
             [b'#', ..] => {
                 self.feed(alloc, text)?;
                 match question_text(text) {
-                    None => Ok(Told::Nothing),
+                    None => Ok(LineResult::Nothing),
                     Some(asked) => self.answer(asked),
                 }
             }
             [] | [b'\n', ..] => {
                 self.feed(alloc, text)?;
-                Ok(Told::Nothing)
+                Ok(LineResult::Nothing)
             }
             _ => self.take_step(alloc, text),
         }

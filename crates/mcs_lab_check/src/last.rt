@@ -14,7 +14,7 @@ pub enum Last {
 
 /// The result of a line: a verdict, if it expects something.
 #[derive(Clone, Copy)]
-pub enum Told {
+pub enum LineResult {
     /// It expects nothing: it is empty, a comment, or of the boot.
     Nothing,
     /// It is a step.

@@ -1,5 +1,5 @@
 //! The current name of each object: the last one given.
-ghost use Rattle.std.specs.Prelude.{◌≡◌, ◌≤◌, None, OnOk, OnErr, option_copied};
+ghost use Rattle.std.specs.Prelude.{◌≡◌, ◌≤◌, None, IfOk, OnOk, OnErr, option_copied, option_map};
 ghost use Rattle.mcs_types.specs.declared.id.ObjId.{ObjId};
 ghost use Rattle.mcs_types.specs.Ids.{kind_number};
 ghost use Rattle.mcs_lab_check.specs.NamesHad.{key_of, name_in, named_now};
@@ -66,14 +66,16 @@ impl Latest {
         }
     }
 
-    /// Gives an object a name, which replaces an earlier one.
-    pub fn put(&mut self, object: ObjId, name: Vec<u8>) -> Result<(), AllocError>
+    /// Gives an object a name, and returns the one that it had.
+    pub fn put(&mut self, object: ObjId, name: Vec<u8>) -> Result<Option<Vec<u8>>, AllocError>
+        ensures had { IfOk result (λ had. option_map (λ n. n.items) had
+            ≡ name_in self.old object) }
         ensures given { OnOk result ((o : ObjId) → name_in self.new o
             ≡ named_now object name.items (name_in self.old o) o) }
         ensures unchanged { OnErr result ((o : ObjId) → name_in self.new o ≡ name_in self.old o) }
     {
         let key = key_of(object);
-        self.names.insert(key, name)?;
-        Ok(())
+        let had = self.names.insert(key, name)?;
+        Ok(had)
     }
 }

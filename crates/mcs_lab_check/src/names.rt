@@ -1,11 +1,11 @@
 //! The names that a script gives to objects.
-ghost use Rattle.std.specs.Prelude.{◌≡◌, ◌++◌, ◌∷◌, ◌==◌, [], true, length, map, option_copied, bytes_eq, OnOk, OnErr};
+ghost use Rattle.std.specs.Prelude.{◌≡◌, ℕ, List, ◌++◌, ◌∷◌, ◌==◌, [], true, length, map, option_copied, bytes_eq, OnOk, OnErr};
 ghost use Rattle.std.specs.List.{list_all};
 ghost use Rattle.mcs_text.specs.Reading.{words_of};
 ghost use Rattle.mcs_types.specs.declared.id.ObjId.{ObjId};
-ghost use Rattle.mcs_lab_check.specs.NamesHad.{name_in};
-ghost use Rattle.mcs_lab_check.specs.GivenTo.{named_now_of};
-ghost use Rattle.mcs_lab_check.specs.Naming.{answered, given_at, is_formed, is_name, is_of_name, is_this, line_names, name_of, name_text, naming_of, what_named, with_found};
+ghost use Rattle.mcs_lab_check.specs.NamesHad.{name_in, named_now};
+ghost use Rattle.mcs_lab_check.specs.GivenTo.{given_to, named_by, renamed};
+ghost use Rattle.mcs_lab_check.specs.Naming.{answered, given_at, is_formed, is_name, is_of_name, is_this, line_names, name_of, name_text, naming_of, what_named};
 
 use crate::by_name::ByName;
 use crate::fault::LabFault;
@@ -44,13 +44,13 @@ pub enum Named {
 
 /// The names that were given; for an object, the last one holds. Clauses see all of them, in order.
 #[derive(Drop)]
-pub struct Names {
+pub struct Labels {
     all: Vec<Given>,
     latest: Latest,
     by_name: ByName,
 }
 
-impl Model for Names {
+impl Model for Labels {
     ghost use Rattle.std.specs.Prelude.{List};
     ghost use Rattle.mcs_lab_check.specs.GivenTo.{AreIndexed};
     ghost use Rattle.mcs_lab_check.specs.Naming.{Naming};
@@ -122,28 +122,47 @@ fn has_name(latest: &Latest, object: ObjId, name: &[u8]) -> bool
     }
 }
 
-/// Returns what a name refers to after one more object with it was found.
-fn with_found(found: Named, object: ObjId) -> Named
-    ensures { result ≡ with_found found object }
+/// Returns what a name refers to by the objects that have it.
+fn named_by(objects: &[ObjId]) -> Named
+    ensures { result ≡ named_by objects.now }
 {
-    match found {
-        Named::Nothing => Named::One(object),
-        Named::One(other) if other.is_same(object) => Named::One(other),
-        Named::One(_) | Named::Several => Named::Several,
+    match objects {
+        [] => Named::Nothing,
+        [object] => Named::One(*object),
+        _ => Named::Several,
     }
 }
 
-/// Returns what a name refers to among the objects that it was given to.
-fn what_named(objects: &[ObjId], latest: &Latest, name: &[u8]) -> Named
-    ensures { result ≡ named_now_of objects.now latest.now name.now }
+/// Gives an object a name in both tables; if memory is refused, they answer as before.
+fn rename(
+    latest: &mut Latest,
+    by_name: &mut ByName,
+    alloc: Global,
+    object: ObjId,
+    word: &[u8],
+) -> Result<(), AllocError>
+    ensures named { OnOk result ((o : ObjId) → name_in latest.new o
+        ≡ named_now object word.now (name_in latest.old o) o) }
+    ensures moved { OnOk result ((q : List ℕ) → given_to by_name.new q
+        ≡ renamed (name_in latest.old object) word.now object (given_to by_name.old q) q) }
+    ensures names_stay { OnErr result ((o : ObjId) → name_in latest.new o ≡ name_in latest.old o) }
+    ensures objects_stay { OnErr result ((q : List ℕ) → given_to by_name.new q
+        ≡ given_to by_name.old q) }
 {
-    let mut found = Named::Nothing;
-    for object in objects {
-        if has_name(latest, *object, name) {
-            found = with_found(found, *object);
+    if has_name(latest, object, word) {
+        return Ok(());
+    }
+    let name = Vec::from_slice(alloc, word)?;
+    by_name.add(alloc, word, object)?;
+    match latest.put(object, name) {
+        Ok(Some(had)) => by_name.remove(&had, object),
+        Ok(None) => {}
+        Err(failed) => {
+            by_name.take_back(word);
+            return Err(failed);
         }
     }
-    found
+    Ok(())
 }
 
 /// Returns the object of a queue, and the suffix of the queue: `.send`, `.recv` or `.wait`.
@@ -155,12 +174,12 @@ fn queue_parts(queue: Queue) -> (ObjId, &'static str) {
     }
 }
 
-impl Names {
+impl Labels {
     /// Returns an empty list of names.
-    pub fn new(alloc: Global) -> Names
+    pub fn new(alloc: Global) -> Labels
         ensures { result ≡ [] }
     {
-        Names {
+        Labels {
             all: Vec::new(alloc),
             latest: Latest::new(alloc),
             by_name: ByName::new(alloc),
@@ -174,13 +193,8 @@ impl Names {
         ensures unchanged { OnErr result (self.new ≡ self.old) }
     {
         let name = Vec::from_slice(alloc, word)?;
-        let now = Vec::from_slice(alloc, word)?;
         self.all.reserve(1)?;
-        self.by_name.add(alloc, word, object)?;
-        if let Err(failed) = self.latest.put(object, now) {
-            self.by_name.take_back(word);
-            return Err(failed);
-        }
+        rename(&mut self.latest, &mut self.by_name, alloc, object, word)?;
         // there is room
         self.all.push(Given { object, name })?;
         Ok(())
@@ -215,7 +229,7 @@ impl Names {
     pub fn find(&self, name: &[u8]) -> Named
         ensures { result ≡ what_named self.now name.now }
     {
-        what_named(self.by_name.of(name), &self.latest, name)
+        named_by(self.by_name.of(name))
     }
 
     /// Writes the name of an object in parentheses, if it has one.

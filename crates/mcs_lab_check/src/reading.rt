@@ -55,7 +55,7 @@ fn take_piece<T: TakesLines>(
         let Some(end) = memchr(b'\n', rest) else {
             break;
         };
-        let Some((line, behind)) = rest.split_at_checked(end.saturating_add(1)) else {
+        let Some((line, following)) = rest.split_at_checked(end.saturating_add(1)) else {
             break;
         };
         if left.is_empty() {
@@ -66,7 +66,7 @@ fn take_piece<T: TakesLines>(
             hand_on(alloc, left.as_slice(), to)?;
             left.clear();
         }
-        rest = behind;
+        rest = following;
     }
     keep(left, rest, to.taken())
 }

@@ -3,7 +3,7 @@ ghost use Rattle.std.specs.Prelude.{◌≡◌, ◌<◌, OnOk};
 ghost use Rattle.std.specs.Io.KnownBytes.{Appends};
 ghost use Rattle.mcs_lab_check.specs.Shown.{hex_digit, is_printable, shown_byte, shown};
 
-use crate::names::Names;
+use crate::names::Labels;
 use mcs_text::Words;
 use std::io::{self, Write};
 
@@ -80,7 +80,7 @@ pub fn put_description<W: Write>(to: &mut W, text: &[u8]) -> io::Result<()> {
 
 /// Writes a YAML text in single quotes, doubling quotes, with the names of the objects that its
 /// words mean.
-pub fn put_quoted<W: Write>(to: &mut W, names: &Names, text: &[u8]) -> io::Result<()> {
+pub fn put_quoted<W: Write>(to: &mut W, names: &Labels, text: &[u8]) -> io::Result<()> {
     to.write_all(b"'")?;
     let mut words = Words::new(text);
     for i in 0..=text.len() {

@@ -81,8 +81,8 @@ starts here s R m h = go (slice_get s.sent m) refl
     go (Some p) e = ap (λ o. unwrap_or o here.thread) (sym (ap (λ o. option_map (λ (p : Point). p.thread) o) e) ∙ is)
     go None e = ap (λ o. unwrap_or o here.thread) (sym (ap (λ o. option_map (λ (p : Point). p.thread) o) e) ∙ is)
 
--- these points say who raised each notification last: in a line of t that has made these records,
--- after these lines
+-- these points say which thread raised each notification last: in a line of t that has made these
+-- records so far, after these lines
 abbrev AreRaised : List (Option Point) → ObjId → List Line → List Rec → Type 0
 AreRaised ps t ls made = (n : ℕ) → thread_in (slice_get ps n) ≡ raiser_of t ls made n
 

@@ -41,7 +41,7 @@ point-thread here (Some (Some p)) = refl
 point-thread here (Some None) = refl
 point-thread here None = refl
 
--- who is kept after a raise, of its notification and of any other
+-- which raiser is kept after a raise, for its notification and for any other
 pub raised-same : (ps : List (Option Point)) (n : ℕ) (here : Point) → thread_in (slice_get (raised_with ps n here) n) ≡ Some here.thread
 raised-same [] zero here = refl
 raised-same [] (suc n) here = raised-same [] n here

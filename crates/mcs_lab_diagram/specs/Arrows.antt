@@ -55,8 +55,8 @@ abbrev pub with_arrow : Strokes → Shown → Point → Point → Strokes
 with_arrow s shown from to = record s { arrows = s.arrows ++ (record { shown = shown; from = from; to = to }) ∷ [] }
 
 -- a record more, in a row in which the thread `here` enters: a message leads from its sender to its
--- taker, an answer from who enters to whom it reaches, and a word from who raised its notification
--- last to who hears it
+-- taker, an answer from the entering thread to the thread that it reaches, and a word from the
+-- thread that raised its notification last to the one that receives it
 abbrev pub with_record : Point → Strokes → Rec → Strokes
 with_record here s (Sent x e mode badge message) = record s { sent = s.sent ++ beside here x ∷ [] }
 with_record here s (Took m p) = with_arrow s (Message m) (start_of s here m) (beside here p)
@@ -70,7 +70,7 @@ abbrev pub with_records : Point → Strokes → List Rec → Strokes
 with_records here s [] = s
 with_records here s (rec ∷ recs) = with_records here (with_record here s rec) recs
 
--- the row of a line: its number, and who enters
+-- the row of a line: its number, and the entering thread
 abbrev pub row_of : ℕ → Line → Point
 row_of number l = record { row = number; thread = l.step.thread }
 

@@ -31,20 +31,20 @@ abbrev pub is_raise : ℕ → Rec → Bool
 is_raise serial (Raised n badge) = serial == n.serial
 is_raise serial _ = false
 
--- who entered the newest of these lines in which that notification was raised
+-- the thread that entered the newest of these lines in which that notification was raised
 abbrev pub raiser_in : ℕ → List Line → Option ObjId
 raiser_in serial [] = None
 raiser_in serial (l ∷ ls) = cond (list_any (is_raise serial) l.records) (Some l.step.thread) (raiser_in serial ls)
 
--- who raised it last: t, if one of these records of its line did, or else who did in the lines
--- before
+-- which thread raised it last: t, if one of these records of its line did, or else the one in the
+-- lines before
 abbrev pub raiser_of : ObjId → List Line → List Rec → ℕ → Option ObjId
 raiser_of t before made serial = cond (list_any (is_raise serial) made) (Some t) (raiser_in serial before)
 
 -- what a record draws in a line of t after these lines, where the line has made these records
 -- before, and R is the log before: a message that is taken leads from its sender to its taker (each
--- was sent, in a fair book), an answer from t to whom it reaches, a word from who raised its
--- notification last to who hears it, and nothing else is drawn
+-- was sent, in a fair book), an answer from t to the thread that it reaches, a word from the thread
+-- that raised its notification last to the one that receives it, and nothing else is drawn
 abbrev pub ends_made : ObjId → List Line → List Rec → Log → Rec → List Ends
 ends_made t before made R (Took m p) = (record { shown = Message m; from = unwrap_or (sender_of R m) t; to = p }) ∷ []
 ends_made t before made R (Paid r x message) = (record { shown = Answer r; from = t; to = x }) ∷ []

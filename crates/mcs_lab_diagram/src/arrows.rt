@@ -56,7 +56,7 @@ impl Model for Strokes {
     } };
 }
 
-/// Returns a thread in the row of a point.
+/// Returns the point of a thread in the row of another point.
 fn beside(here: Point, thread: ObjId) -> Point
     ensures { result ≡ beside here thread }
 {

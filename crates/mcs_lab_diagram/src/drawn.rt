@@ -24,7 +24,7 @@ use std::alloc::{AllocError, Global};
 #[derive(Drop)]
 pub struct Away {
     /// How many lines the book had then.
-    pub behind: usize,
+    pub after: usize,
     pub core: CoreId,
     pub thread: ObjId,
     /// The step's line in the script.
@@ -37,7 +37,7 @@ pub struct Away {
 pub enum DrawFault {
     /// The book is full at a step that would be accepted.
     BookFull,
-    /// Memory was refused.
+    /// An allocation failed.
     OutOfMemory,
 }
 
@@ -169,7 +169,7 @@ impl Drawing {
         ensures picks { OnOk result (self.new.picks.items ≡ self.old.picks.items) }
     {
         self.away.push(Away {
-            behind: self.kernel.book().lines() - 1,
+            after: self.kernel.book().lines() - 1,
             core: step.core,
             thread: step.thread,
             text: kept(alloc, text)?,

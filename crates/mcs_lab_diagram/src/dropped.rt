@@ -54,7 +54,7 @@ fn is_passed(answer: &Answer) -> bool
     }
 }
 
-/// Returns whether a record says that what a thread sent was accepted.
+/// Returns whether a record shows that what a thread sent was accepted.
 fn accepts(fact: &Rec) -> bool
     ensures { result ≡ accepts fact.now }
 {
@@ -78,7 +78,7 @@ fn accepts(fact: &Rec) -> bool
     }
 }
 
-/// Returns whether a packed record says that what a thread sent was accepted.
+/// Returns whether a packed record shows that what a thread sent was accepted.
 fn kept_accepts(alloc: Global, kept: &KeptRecord<'_>) -> Result<bool, AllocError>
     ensures { IfOk result (λ b. b ≡ accepts kept.now) }
 {
@@ -98,7 +98,7 @@ fn entry_may(alloc: Global, line: &Line<'_>) -> Result<bool, AllocError>
     }
 }
 
-/// Returns whether the answer of a line is no refusal.
+/// Returns whether the answer of a line is not a refusal.
 fn line_passed(alloc: Global, line: &Line<'_>) -> Result<bool, AllocError>
     ensures { IfOk result (λ b. b ≡ is_passed line.now.answer) }
 {
@@ -108,7 +108,7 @@ fn line_passed(alloc: Global, line: &Line<'_>) -> Result<bool, AllocError>
     }
 }
 
-/// Returns whether no record of a line says that something sent was accepted.
+/// Returns whether no record of a line shows that something sent was accepted.
 #[tactic(auto, using(crate::proofs::DroppedLaws::accepts_none_stops))]
 fn accepts_none(alloc: Global, line: &Line<'_>) -> Result<bool, AllocError>
     ensures { IfOk result (λ b. b ≡ accepts_none line.now.records) }

@@ -187,7 +187,7 @@ pub fn form_of(sign: Option<u8>, key: &[u8]) -> Option<Fields<'static>> {
 }
 
 /// Returns two texts without their common prefix.
-fn behind_common<'a>(first: &'a [u8], second: &'a [u8]) -> (&'a [u8], &'a [u8]) {
+fn after_common<'a>(first: &'a [u8], second: &'a [u8]) -> (&'a [u8], &'a [u8]) {
     let mut a = first;
     let mut b = second;
     for _ in 0..first.len() {
@@ -223,7 +223,7 @@ fn before_common<'a>(first: &'a [u8], second: &'a [u8]) -> (&'a [u8], &'a [u8]) 
 /// Returns whether two words differ in one letter that is changed, missing or extra, or in two that
 /// are swapped.
 fn is_near(a: &[u8], b: &[u8]) -> bool {
-    let (a, b) = behind_common(a, b);
+    let (a, b) = after_common(a, b);
     match before_common(a, b) {
         ([_], [_]) | ([], [_]) | ([_], []) => true,
         ([first, second], [other, last]) => *first == *last && *second == *other,

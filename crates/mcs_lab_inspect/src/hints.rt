@@ -1,5 +1,5 @@
 //! Hints for a line that fits no form.
-use crate::page::Page;
+use crate::page::TextBuffer;
 use mcs_lab_check::object_of;
 use mcs_lab_forms::{Field, Fields, form_of, meant_by, number_of};
 use mcs_text::Words;
@@ -25,7 +25,7 @@ fn wanted(name: &[u8], is_address: bool) -> Wants {
     }
 }
 
-/// Returns whether a word fits what is wanted.
+/// Returns whether a word fits what is expected.
 fn fits(word: &[u8], wants: Wants) -> bool {
     match wants {
         Wants::Number => number_of(word).is_some(),
@@ -47,13 +47,13 @@ fn fault_of(word: &[u8]) -> Option<&'static [u8]> {
 }
 
 /// Appends the number of a word.
-fn put_number(page: &mut Page, number: u64) {
+fn put_number(page: &mut TextBuffer, number: u64) {
     page.put(b"  word ");
     page.number(number);
 }
 
 /// Appends what is wrong with a word by itself. Returns false if nothing is.
-fn put_word_hint(page: &mut Page, number: u64, word: &[u8]) -> bool {
+fn put_word_hint(page: &mut TextBuffer, number: u64, word: &[u8]) -> bool {
     match fault_of(word) {
         None => false,
         Some(fault) => {
@@ -65,7 +65,7 @@ fn put_word_hint(page: &mut Page, number: u64, word: &[u8]) -> bool {
 }
 
 /// Appends which key was meant, if one is near.
-fn put_meant(page: &mut Page, number: u64, word: &[u8]) {
+fn put_meant(page: &mut TextBuffer, number: u64, word: &[u8]) {
     put_number(page, number);
     page.put(b" \"");
     page.shown(word);
@@ -80,7 +80,7 @@ fn put_meant(page: &mut Page, number: u64, word: &[u8]) {
 }
 
 /// Appends that a word is missing or does not fit, and the word.
-fn put_unlike(page: &mut Page, number: u64, fault: &[u8], name: &[u8]) {
+fn put_unlike(page: &mut TextBuffer, number: u64, fault: &[u8], name: &[u8]) {
     put_number(page, number);
     page.put(fault);
     page.put(name);
@@ -88,8 +88,8 @@ fn put_unlike(page: &mut Page, number: u64, fault: &[u8], name: &[u8]) {
 }
 
 /// Appends what is wrong with the word of this number, if the form has one there. Returns true if
-/// no later word need be looked at.
-fn put_pair(page: &mut Page, number: u64, field: Field<'_>, word: Option<&[u8]>) -> bool {
+/// no later word need be tried.
+fn put_pair(page: &mut TextBuffer, number: u64, field: Field<'_>, word: Option<&[u8]>) -> bool {
     let Some(word) = word else {
         if !field.is_last {
             put_unlike(page, number, b" is missing: ", field.name);
@@ -108,7 +108,7 @@ fn put_pair(page: &mut Page, number: u64, field: Field<'_>, word: Option<&[u8]>)
 
 /// Appends the first word that a form does not allow.
 fn put_misfit(
-    page: &mut Page,
+    page: &mut TextBuffer,
     fields: &mut Fields<'_>,
     words: &mut Words<'_>,
     before: u64,
@@ -136,7 +136,13 @@ fn put_misfit(
 }
 
 /// Appends what may be wrong with the words after a key, which is the word of this number.
-fn put_key_hints(page: &mut Page, words: &mut Words<'_>, key: &[u8], number: u64, most: usize) {
+fn put_key_hints(
+    page: &mut TextBuffer,
+    words: &mut Words<'_>,
+    key: &[u8],
+    number: u64,
+    most: usize,
+) {
     if put_word_hint(page, number, key) {
         return;
     }
@@ -147,7 +153,7 @@ fn put_key_hints(page: &mut Page, words: &mut Words<'_>, key: &[u8], number: u64
 }
 
 /// Appends what may be wrong with a step, after its core.
-fn put_step_hints(page: &mut Page, words: &mut Words<'_>, most: usize) {
+fn put_step_hints(page: &mut TextBuffer, words: &mut Words<'_>, most: usize) {
     let Some(thread) = words.next_word() else {
         return page.put(b"  word 2 is missing: the thread that enters\n");
     };
@@ -161,7 +167,7 @@ fn put_step_hints(page: &mut Page, words: &mut Words<'_>, most: usize) {
 }
 
 /// Appends what may be wrong with a line that fits no form, or has a number out of range.
-pub fn put_hints(page: &mut Page, line: &[u8]) {
+pub fn put_hints(page: &mut TextBuffer, line: &[u8]) {
     let mut words = Words::new(line);
     let Some(first) = words.next_word() else {
         return;

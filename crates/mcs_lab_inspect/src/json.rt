@@ -1,9 +1,9 @@
 //! The lines of a book as JSON, an object for each.
 use crate::members::{Member, members_of, put_members, put_value, split_word};
 use crate::named::NamesMember;
-use crate::page::{Numbers, Page};
+use crate::page::{Numbers, TextBuffer};
 use mcs_lab_check::{
-    Judge, LabFault, Last, Names, TakesLines, Told, bare, object_of, queue_of, take_lines,
+    Judge, LabFault, Labels, Last, LineResult, TakesLines, bare, object_of, queue_of, take_lines,
 };
 use mcs_lab_forms::{Fields, form_of};
 use mcs_sim::Source;
@@ -24,7 +24,7 @@ fn fields_of(sign: Option<u8>, key: &[u8]) -> Fields<'static> {
 /// Appends as an object the words after a key, if they are of the reported kind.
 fn put_object<'a>(
     alloc: Global,
-    page: &mut Page,
+    page: &mut TextBuffer,
     fields: &mut Fields<'static>,
     kind: Option<Member<'a>>,
     text: Option<&'a [u8]>,
@@ -35,13 +35,13 @@ fn put_object<'a>(
     }
 }
 
-/// Appends a line of an answer or a record with this sign as an object: its key under `kind`, and
-/// the other words under the names of its form.
-fn put_line(alloc: Global, page: &mut Page, sign: u8, line: &[u8]) {
-    let (_, Some(behind)) = split_word(line) else {
+/// Appends a line as an object. The sign says whether the line is an answer or a record. Its key is
+/// the member `kind`; the other words have the names that the form of the line gives them.
+fn put_line(alloc: Global, page: &mut TextBuffer, sign: u8, line: &[u8]) {
+    let (_, Some(after)) = split_word(line) else {
         return page.put(b"null");
     };
-    let (key, text) = split_word(behind);
+    let (key, text) = split_word(after);
     let kind = Member {
         name: b"kind".as_slice(),
         value: key,
@@ -58,7 +58,7 @@ fn put_line(alloc: Global, page: &mut Page, sign: u8, line: &[u8]) {
 }
 
 /// Appends the thread that entered, with its name if it has one.
-fn put_thread(page: &mut Page, names: &Names, thread: &[u8]) {
+fn put_thread(page: &mut TextBuffer, names: &Labels, thread: &[u8]) {
     page.put(b",\"thread\":");
     page.quoted(thread);
     if let Some(object) = object_of(thread) {
@@ -67,14 +67,14 @@ fn put_thread(page: &mut Page, names: &Names, thread: &[u8]) {
 }
 
 /// Appends the words of the line of a step.
-fn put_step(alloc: Global, page: &mut Page, names: &Names, step: &[u8]) {
-    let (core, Some(behind)) = split_word(step) else {
+fn put_step(alloc: Global, page: &mut TextBuffer, names: &Labels, step: &[u8]) {
+    let (core, Some(after)) = split_word(step) else {
         return;
     };
-    let (thread, Some(behind)) = split_word(behind) else {
+    let (thread, Some(after)) = split_word(after) else {
         return;
     };
-    let (key, text) = split_word(behind);
+    let (key, text) = split_word(after);
     page.put(b",\"core\":");
     put_value(page, core, false);
     put_thread(page, names, thread);
@@ -127,7 +127,7 @@ impl Mentioned {
     }
 
     /// Appends the names of the objects as the last member of an object, and empties the list.
-    fn put_names(&mut self, page: &mut Page, names: &Names) {
+    fn put_names(&mut self, page: &mut TextBuffer, names: &Labels) {
         let mut member = NamesMember::new(names, false);
         for object in self.objects.iter() {
             member.put(page, *object);
@@ -141,17 +141,17 @@ impl Mentioned {
 #[derive(Drop)]
 struct Teller {
     judge: Judge,
-    names: Names,
+    names: Labels,
     mentioned: Mentioned,
     spelled: Box<Line>,
-    page: Page,
+    page: TextBuffer,
 }
 
 /// Appends the records of a line of a book as JSON, and notes the objects that they name. `before`
 /// is the number of messages sent before the line.
 fn put_records(
     alloc: Global,
-    page: &mut Page,
+    page: &mut TextBuffer,
     mentioned: &mut Mentioned,
     spelled: &mut Line,
     line: mcs_book::Line<'_>,
@@ -179,9 +179,9 @@ impl Teller {
     /// drop it.
     fn new(alloc: Global, numbers: Numbers) -> Result<Teller, LabFault> {
         let spelled = Box::new(alloc, Line::new())?;
-        let mut page = Page::new(alloc)?;
+        let mut page = TextBuffer::new(alloc)?;
         page.set_numbers(numbers);
-        let names = Names::new(alloc);
+        let names = Labels::new(alloc);
         let objects = Vec::new(alloc);
         let judge = Judge::new(alloc)?;
         Ok(Teller {
@@ -221,8 +221,8 @@ impl Teller {
     /// Takes a line of a script.
     fn take(&mut self, alloc: Global, line: &[u8]) -> Result<(), LabFault> {
         match (self.judge.take(alloc, line)?, self.judge.last()) {
-            (Told::Nothing, _) => self.names.hear(alloc, self.judge.line(), line),
-            (Told::Step, Last::LetIn { .. }) => {
+            (LineResult::Nothing, _) => self.names.hear(alloc, self.judge.line(), line),
+            (LineResult::Step, Last::LetIn { .. }) => {
                 self.tell(alloc);
                 Ok(())
             }

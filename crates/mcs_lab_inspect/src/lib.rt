@@ -19,7 +19,7 @@ mod why;
 
 pub use json::write_json;
 pub use named::{KINDS, NamesMember};
-pub use page::{Numbers, Page};
+pub use page::{Numbers, TextBuffer};
 pub use state::{Wanted, show_state};
 pub use whole::{Whole, read_whole};
 pub use why::explain;

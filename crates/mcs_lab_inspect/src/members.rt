@@ -1,5 +1,5 @@
 //! The words of a line as the members of an object of JSON, in the order of their names.
-use crate::page::Page;
+use crate::page::TextBuffer;
 use mcs_lab_forms::{Field, Fields, number_of};
 use mcs_text::Words;
 use std::alloc::Global;
@@ -36,7 +36,7 @@ fn is_before(name: &[u8], other: &[u8]) -> bool {
 }
 
 /// Returns the member whose name sorts next after a name.
-fn next_behind<'a>(members: &[Member<'a>], name: &[u8]) -> Option<Member<'a>> {
+fn next_after<'a>(members: &[Member<'a>], name: &[u8]) -> Option<Member<'a>> {
     let mut next: Option<Member<'a>> = None;
     for member in members {
         if !is_before(name, member.name) {
@@ -51,7 +51,7 @@ fn next_behind<'a>(members: &[Member<'a>], name: &[u8]) -> Option<Member<'a>> {
 }
 
 /// Appends a value of one word: a number, which may be wide, `null` for a dash, or a text.
-pub fn put_value(page: &mut Page, text: &[u8], is_wide: bool) {
+pub fn put_value(page: &mut TextBuffer, text: &[u8], is_wide: bool) {
     if text == b"-".as_slice() {
         return page.put(b"null");
     }
@@ -63,7 +63,7 @@ pub fn put_value(page: &mut Page, text: &[u8], is_wide: bool) {
 }
 
 /// Appends words as a list.
-fn put_list(page: &mut Page, text: &[u8], is_wide: bool) {
+fn put_list(page: &mut TextBuffer, text: &[u8], is_wide: bool) {
     page.put(b"[");
     let mut words = Words::new(text);
     for i in 0..=text.len() {
@@ -77,7 +77,7 @@ fn put_list(page: &mut Page, text: &[u8], is_wide: bool) {
 }
 
 /// Appends a member, with a comma unless it is the first.
-fn put_member(page: &mut Page, member: Member<'_>, is_first: bool) {
+fn put_member(page: &mut TextBuffer, member: Member<'_>, is_first: bool) {
     page.between(is_first);
     page.quoted(member.name);
     page.put(b":");
@@ -89,11 +89,11 @@ fn put_member(page: &mut Page, member: Member<'_>, is_first: bool) {
 }
 
 /// Appends an object of these members.
-pub fn put_members(page: &mut Page, members: &[Member<'_>]) {
+pub fn put_members(page: &mut TextBuffer, members: &[Member<'_>]) {
     page.put(b"{");
     let mut before = b"".as_slice();
     for i in 0..members.len() {
-        let Some(member) = next_behind(members, before) else {
+        let Some(member) = next_after(members, before) else {
             break;
         };
         put_member(page, member, i == 0);
@@ -122,12 +122,12 @@ pub fn members_of<'a>(
     let mut rest = text;
     // each round but the last takes a word
     for _ in 0..=text.len() {
-        let (member, behind) = member_of(fields, rest);
+        let (member, after) = member_of(fields, rest);
         if members.push(member).is_err() {
             return None;
         }
-        match behind {
-            Some(behind) => rest = behind,
+        match after {
+            Some(after) => rest = after,
             None => break,
         }
     }
@@ -138,9 +138,9 @@ pub fn members_of<'a>(
 pub fn split_word(text: &[u8]) -> (&[u8], Option<&[u8]>) {
     for (i, byte) in text.iter().enumerate() {
         if *byte == b' '
-            && let Some((word, [_, behind @ ..])) = text.split_at_checked(i)
+            && let Some((word, [_, after @ ..])) = text.split_at_checked(i)
         {
-            return (word, Some(behind));
+            return (word, Some(after));
         }
     }
     (text, None)
@@ -157,7 +157,7 @@ fn member_of<'a>(fields: &mut Fields<'static>, text: &'a [u8]) -> (Member<'a>, O
         };
         return (more, None);
     };
-    let (value, behind) = if field.is_last {
+    let (value, after) = if field.is_last {
         (text, None)
     } else {
         split_word(text)
@@ -168,5 +168,5 @@ fn member_of<'a>(fields: &mut Fields<'static>, text: &'a [u8]) -> (Member<'a>, O
         is_list: field.is_last && field.name == b"words".as_slice(),
         is_wide: is_wide(&field),
     };
-    (member, behind)
+    (member, after)
 }

@@ -1,7 +1,7 @@
 //! The names of objects as a member of an object of JSON: `"names":{"t1":"client"}`.
-use crate::page::Page;
+use crate::page::TextBuffer;
 use crate::spaces::object;
-use mcs_lab_check::Names;
+use mcs_lab_check::Labels;
 use mcs_text::Token;
 use mcs_types::{Kind, ObjId};
 
@@ -19,14 +19,14 @@ pub const KINDS: &[Kind] = &[
 /// name.
 #[derive(Drop)]
 pub struct NamesMember<'a> {
-    names: &'a Names,
+    names: &'a Labels,
     is_first: bool,
     is_begun: bool,
 }
 
 impl<'a> NamesMember<'a> {
     /// Returns an empty member, the first of its object or a later one.
-    pub fn new(names: &'a Names, is_first: bool) -> NamesMember<'a> {
+    pub fn new(names: &'a Labels, is_first: bool) -> NamesMember<'a> {
         NamesMember {
             names,
             is_first,
@@ -35,7 +35,7 @@ impl<'a> NamesMember<'a> {
     }
 
     /// Appends the beginning of the member, or the separator between two names.
-    fn put_between(&mut self, page: &mut Page) {
+    fn put_between(&mut self, page: &mut TextBuffer) {
         if self.is_begun {
             return page.put(b",");
         }
@@ -45,7 +45,7 @@ impl<'a> NamesMember<'a> {
     }
 
     /// Appends the name of an object under its id, if it has one.
-    pub fn put(&mut self, page: &mut Page, object: ObjId) {
+    pub fn put(&mut self, page: &mut TextBuffer, object: ObjId) {
         let names = self.names;
         let Some(name) = names.of(object) else {
             return;
@@ -57,14 +57,14 @@ impl<'a> NamesMember<'a> {
     }
 
     /// Appends the names of the first `count` objects of a kind.
-    pub fn put_kind(&mut self, page: &mut Page, kind: Kind, count: u32) {
+    pub fn put_kind(&mut self, page: &mut TextBuffer, kind: Kind, count: u32) {
         for serial in 1..=count {
             self.put(page, object(kind, serial));
         }
     }
 
     /// Appends the end of the member if it was begun. Returns whether there is a member.
-    pub fn end(&self, page: &mut Page) -> bool {
+    pub fn end(&self, page: &mut TextBuffer) -> bool {
         if self.is_begun {
             page.put(b"}");
         }

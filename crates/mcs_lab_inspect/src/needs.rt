@@ -63,7 +63,8 @@ impl Need {
         }
     }
 
-    /// Adds the CNodes that hold the sought capability to those that let the thread continue.
+    /// Adds the CNodes that hold the sought capability to the list of those through which the
+    /// thread can continue.
     fn or(mut self, kernel: &Kernel<LinkedLines>, sought: Sought) -> Need {
         self.by.add(sought.holders(kernel));
         self

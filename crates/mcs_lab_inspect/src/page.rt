@@ -1,5 +1,5 @@
 //! A text buffer for reports.
-use mcs_lab_check::{LabFault, Names, put_shown};
+use mcs_lab_check::{LabFault, Labels, put_shown};
 use mcs_text::Token;
 use mcs_trace::{Line, spell};
 use mcs_types::{ObjId, Queue};
@@ -16,7 +16,7 @@ pub enum Numbers {
 /// A text buffer. After a failed allocation it ignores all that is appended and writes nothing any
 /// more, so callers need not check each append.
 #[derive(Drop)]
-pub struct Page {
+pub struct TextBuffer {
     text: Vec<u8>,
     word: Box<Line>,
     numbers: Numbers,
@@ -28,10 +28,10 @@ fn is_plain(byte: u8) -> bool {
     byte >= b' ' && byte <= b'~' && byte != b'"' && byte != b'\\'
 }
 
-impl Page {
+impl TextBuffer {
     /// Returns an empty text. `AllocError` if an allocation fails.
-    pub fn new(alloc: Global) -> Result<Page, AllocError> {
-        Ok(Page {
+    pub fn new(alloc: Global) -> Result<TextBuffer, AllocError> {
+        Ok(TextBuffer {
             text: Vec::new(alloc),
             word: Box::new(alloc, Line::new())?,
             numbers: Numbers::Integers,
@@ -76,7 +76,7 @@ impl Page {
         self.word(&Token::Number(number));
     }
 
-    /// Appends a text that was made, if its allocation did not fail.
+    /// Appends a text, or notes that its allocation failed.
     pub fn made(&mut self, text: Result<String, AllocError>) {
         match text {
             Ok(text) => self.put(text.as_bytes()),
@@ -122,7 +122,7 @@ impl Page {
     }
 
     /// Appends the name of an object in parentheses, if it has one.
-    fn name(&mut self, names: &Names, object: ObjId) {
+    fn name(&mut self, names: &Labels, object: ObjId) {
         if let Some(name) = names.of(object) {
             self.put(b" (");
             self.put(name);
@@ -131,13 +131,13 @@ impl Page {
     }
 
     /// Appends an object, with its name where it has one: `t1 (client)`.
-    pub fn object(&mut self, names: &Names, object: ObjId) {
+    pub fn object(&mut self, names: &Labels, object: ObjId) {
         self.word(&Token::Name(object));
         self.name(names, object);
     }
 
     /// Appends a queue, with the name of its object where it has one.
-    pub fn queue(&mut self, names: &Names, queue: Queue) {
+    pub fn queue(&mut self, names: &Labels, queue: Queue) {
         self.word(&Token::Line(queue));
         match queue {
             Queue::Senders(object) | Queue::Receivers(object) | Queue::Waiters(object) => {
@@ -166,7 +166,7 @@ impl Page {
 }
 
 /// Appends the parts of a JSON text. A later member is one that is not the first of its object.
-impl Page {
+impl TextBuffer {
     /// Appends a text between quotes.
     pub fn quoted(&mut self, text: &[u8]) {
         self.put(b"\"");
@@ -231,7 +231,7 @@ impl Page {
     }
 
     /// Appends the name of an object as a later member, if it has one.
-    pub fn name_member(&mut self, names: &Names, object: ObjId) {
+    pub fn name_member(&mut self, names: &Labels, object: ObjId) {
         if let Some(name) = names.of(object) {
             self.text_member("name", name);
         }

@@ -1,13 +1,13 @@
 //! The path of lookup for an address, in words.
-use crate::page::Page;
+use crate::page::TextBuffer;
 use mcs_kernel::Kernel;
-use mcs_lab_check::Names;
+use mcs_lab_check::Labels;
 use mcs_queues::LinkedLines;
 use mcs_types::{Cap, Kind};
 
-/// Returns `count` bits of a number, above its low `behind` bits.
-fn bits_of(number: u64, count: u32, behind: u32) -> u64 {
-    let shifted = number.checked_shr(behind).unwrap_or(0);
+/// Returns `count` bits of a number: those just above its lowest `behind` bits.
+fn bits_of(number: u64, count: u32, after: u32) -> u64 {
+    let shifted = number.checked_shr(after).unwrap_or(0);
     match 1u64.checked_shl(count) {
         None => shifted,
         Some(limit) => shifted & limit.saturating_sub(1),
@@ -22,24 +22,24 @@ struct Level {
 }
 
 /// Appends that the guard of a level does not match.
-fn put_guard(page: &mut Page, guard: u32) {
+fn put_guard(page: &mut TextBuffer, guard: u32) {
     page.put(b", whose guard of ");
     page.number(guard as u64);
     page.put(b" bits is another");
 }
 
 /// Appends that too few bits are left for the index of a level.
-fn put_radix(page: &mut Page, radix: u32, behind: u32) {
+fn put_radix(page: &mut TextBuffer, radix: u32, after: u32) {
     page.put(b", whose index has ");
     page.number(radix as u64);
     page.put(b" bits, where ");
-    page.number(behind as u64);
+    page.number(after as u64);
     page.put(b" are left");
 }
 
-/// Appends the slot that lookup takes at a level, and why it stops there, if it does. Returns the
-/// next level, if lookup continues.
-fn put_slot(page: &mut Page, index: u64, held: Option<Cap>, left: u32) -> Option<Level> {
+/// Appends the slot that lookup indexes at a level, and why lookup stops there, if it does. Returns
+/// the next level, if lookup continues.
+fn put_slot(page: &mut TextBuffer, index: u64, held: Option<Cap>, left: u32) -> Option<Level> {
     page.put(b" ");
     page.number(index);
     match held {
@@ -62,26 +62,26 @@ fn put_slot(page: &mut Page, index: u64, held: Option<Cap>, left: u32) -> Option
 /// Appends the slot that lookup takes at a level, or why it takes none. Returns the next level, if
 /// lookup continues.
 fn put_level(
-    page: &mut Page,
+    page: &mut TextBuffer,
     kernel: &Kernel<LinkedLines>,
-    names: &Names,
+    names: &Labels,
     address: u64,
     level: Level,
 ) -> Option<Level> {
     let Level { cap, left } = level;
     page.object(names, cap.obj);
     let guard = cap.guard.bits as u32;
-    let behind = left.saturating_sub(guard);
-    if guard > left || bits_of(address, guard, behind) != cap.guard.value {
+    let after = left.saturating_sub(guard);
+    if guard > left || bits_of(address, guard, after) != cap.guard.value {
         put_guard(page, guard);
         return None;
     }
     let radix = kernel.radix(cap.obj) as u32;
-    if radix > behind {
-        put_radix(page, radix, behind);
+    if radix > after {
+        put_radix(page, radix, after);
         return None;
     }
-    let left = behind.saturating_sub(radix);
+    let left = after.saturating_sub(radix);
     let index = bits_of(address, radix, left);
     let held = match u8::try_from(index) {
         Ok(index) => kernel.capability(cap.obj, index),
@@ -92,9 +92,9 @@ fn put_level(
 
 /// Appends the slots that lookup passes from a root, and where it ends: `(c1 3, c2 1 is empty)`.
 pub fn put_path(
-    page: &mut Page,
+    page: &mut TextBuffer,
     kernel: &Kernel<LinkedLines>,
-    names: &Names,
+    names: &Labels,
     root: Cap,
     address: u64,
     depth: u32,

@@ -1,10 +1,10 @@
 //! The state of each thread after a line of a script.
-use crate::page::{Numbers, Page};
+use crate::page::{Numbers, TextBuffer};
 use crate::stuck::Waits;
 use crate::tables::put_tables;
 use crate::values::put_values;
 use mcs_kernel::Kernel;
-use mcs_lab_check::{Judge, LabFault, Names, TakesLines, Told, take_lines};
+use mcs_lab_check::{Judge, LabFault, Labels, LineResult, TakesLines, take_lines};
 use mcs_queues::LinkedLines;
 use mcs_sim::Source;
 use std::alloc::Global;
@@ -24,12 +24,12 @@ pub struct Wanted {
 #[derive(Drop)]
 struct Reader {
     judge: Judge,
-    names: Names,
+    names: Labels,
     at: Option<u64>,
 }
 
 impl Reader {
-    /// Returns whether the wanted lines were read.
+    /// Returns whether the requested lines were read.
     fn is_done(&self) -> bool {
         match self.at {
             Some(at) => self.judge.line() >= at,
@@ -37,7 +37,7 @@ impl Reader {
         }
     }
 
-    /// Returns the fault that the wanted line is beyond the end, if it is.
+    /// Returns the fault that the requested line is beyond the end, if it is.
     fn missing(&self) -> Option<LabFault> {
         let line = self.at?;
         let count = self.judge.line();
@@ -53,7 +53,7 @@ impl TakesLines for Reader {
         if self.is_done() {
             return Ok(());
         }
-        if let Told::Nothing = self.judge.take(alloc, line)? {
+        if let LineResult::Nothing = self.judge.take(alloc, line)? {
             self.names.hear(alloc, self.judge.line(), line)?;
         }
         Ok(())
@@ -64,12 +64,12 @@ impl TakesLines for Reader {
     }
 }
 
-/// Appends what is wanted of a state. Returns false if only stuck threads are wanted, and there are
-/// some.
+/// Appends the requested part of a state. Returns false if only stuck threads are requested, and
+/// there are some.
 fn put_state(
-    page: &mut Page,
+    page: &mut TextBuffer,
     kernel: &Kernel<LinkedLines>,
-    names: &Names,
+    names: &Labels,
     waits: &Waits,
     wanted: Wanted,
 ) -> bool {
@@ -83,13 +83,13 @@ fn put_state(
     waits.put(page, kernel, names) || !wanted.stuck
 }
 
-/// Reads a script up to the wanted line, and appends what is wanted of its state. Returns false if
-/// only stuck threads are wanted, and there are some.
+/// Reads a script up to the requested line, and appends the requested part of its state. Returns
+/// false if only stuck threads are requested, and there are some.
 fn read_state<R: Read>(
     alloc: Global,
     from: &mut Source<R>,
     reader: &mut Reader,
-    page: &mut Page,
+    page: &mut TextBuffer,
     wanted: Wanted,
 ) -> Result<bool, LabFault> {
     take_lines(alloc, from, reader)?;
@@ -105,17 +105,17 @@ fn read_state<R: Read>(
 }
 
 /// Shows the state of each thread after a line of a script, or at its end, and what is stuck.
-/// Returns false if only stuck threads are wanted, and there are some. Fault `NoLine` if the line
-/// is beyond the end.
+/// Returns false if only stuck threads are requested, and there are some. Fault `NoLine` if the
+/// line is beyond the end.
 pub fn show_state<R: Read, W: Write + Drop>(
     alloc: Global,
     from: &mut Source<R>,
     mut to: W,
     wanted: Wanted,
 ) -> Result<bool, LabFault> {
-    let mut page = Page::new(alloc)?;
+    let mut page = TextBuffer::new(alloc)?;
     page.set_numbers(wanted.numbers);
-    let names = Names::new(alloc);
+    let names = Labels::new(alloc);
     let judge = Judge::new(alloc)?;
     let at = wanted.at;
     let mut reader = Reader { judge, names, at };

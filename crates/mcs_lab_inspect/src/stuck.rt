@@ -1,10 +1,10 @@
 //! Which threads wait for which, and which are stuck: by the book and by questions to the kernel.
 use crate::needs::{Need, Needs};
-use crate::page::Page;
+use crate::page::TextBuffer;
 use crate::spaces::{Spaces, object};
 use mcs_book::Book;
 use mcs_kernel::Kernel;
-use mcs_lab_check::{LabFault, Names};
+use mcs_lab_check::{LabFault, Labels};
 use mcs_queues::LinkedLines;
 use mcs_types::{Kind, ObjId, OutOfMemory, Queue, Rec, Status, ThreadSet};
 use std::alloc::Global;
@@ -46,7 +46,7 @@ fn receiver_of(record: Option<Rec>, endpoint: ObjId) -> Option<ObjId> {
     }
 }
 
-/// Adds the threads that received on an endpoint in some line, except one.
+/// Adds the threads that received on an endpoint in some line of the book, except one.
 fn add_receivers(
     alloc: Global,
     book: &Book,
@@ -271,7 +271,12 @@ impl Waits {
 
     /// Appends what a thread is blocked on: a reply, its place in a queue, or a missing context.
     /// Appends nothing for a thread that is inactive or closed.
-    fn put_cause(page: &mut Page, kernel: &Kernel<LinkedLines>, names: &Names, thread: ObjId) {
+    fn put_cause(
+        page: &mut TextBuffer,
+        kernel: &Kernel<LinkedLines>,
+        names: &Labels,
+        thread: ObjId,
+    ) {
         match kernel.status(thread) {
             Some(Status::OnReply(reply)) => {
                 page.put(b" waits for the answer that ");
@@ -288,7 +293,7 @@ impl Waits {
     }
 
     /// Appends the stuck threads, a line each. Returns true if there are none.
-    pub fn put(&self, page: &mut Page, kernel: &Kernel<LinkedLines>, names: &Names) -> bool {
+    pub fn put(&self, page: &mut TextBuffer, kernel: &Kernel<LinkedLines>, names: &Labels) -> bool {
         let mut is_free = true;
         for serial in 1..=self.count {
             let thread = object(Kind::Thread, serial);
@@ -314,9 +319,9 @@ impl Waits {
     /// Appends the threads that a thread waits for.
     fn put_waited(
         &self,
-        page: &mut Page,
+        page: &mut TextBuffer,
         kernel: &Kernel<LinkedLines>,
-        names: &Names,
+        names: &Labels,
         thread: ObjId,
     ) {
         let mut is_first = true;

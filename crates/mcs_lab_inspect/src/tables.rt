@@ -1,8 +1,8 @@
 //! The state of each thread, as text.
-use crate::page::Page;
+use crate::page::TextBuffer;
 use crate::spaces::object;
 use mcs_kernel::Kernel;
-use mcs_lab_check::Names;
+use mcs_lab_check::Labels;
 use mcs_queues::LinkedLines;
 use mcs_text::Token;
 use mcs_types::{Kind, Mail, Message, ObjId, Queue, Status};
@@ -11,11 +11,11 @@ use mcs_types::{Kind, Mail, Message, ObjId, Queue, Status};
 #[derive(Drop)]
 struct Tables<'a> {
     kernel: &'a Kernel<LinkedLines>,
-    names: &'a Names,
+    names: &'a Labels,
 }
 
 /// Appends the label and the words of a message.
-fn put_message(page: &mut Page, message: &Message) {
+fn put_message(page: &mut TextBuffer, message: &Message) {
     page.put(b" ");
     page.number(message.label());
     for word in message.words() {
@@ -26,7 +26,7 @@ fn put_message(page: &mut Page, message: &Message) {
 
 impl<'a> Tables<'a> {
     /// Appends an object after some words, if it exists.
-    fn put_some(&self, page: &mut Page, before: &[u8], object: Option<ObjId>) {
+    fn put_some(&self, page: &mut TextBuffer, before: &[u8], object: Option<ObjId>) {
         if let Some(object) = object {
             page.put(before);
             page.object(self.names, object);
@@ -34,7 +34,7 @@ impl<'a> Tables<'a> {
     }
 
     /// Appends what a thread does.
-    fn put_status(&self, page: &mut Page, status: Option<Status>) {
+    fn put_status(&self, page: &mut TextBuffer, status: Option<Status>) {
         match status {
             Some(Status::Running) => page.put(b"running"),
             Some(Status::Restart) => page.put(b"restart"),
@@ -52,8 +52,8 @@ impl<'a> Tables<'a> {
         }
     }
 
-    /// Appends what last reached a thread.
-    fn put_mail(&self, page: &mut Page, thread: ObjId) {
+    /// Appends the message or the word that last reached a thread.
+    fn put_mail(&self, page: &mut TextBuffer, thread: ObjId) {
         match self.kernel.mail(thread) {
             None => {}
             Some(Mail::Word { word }) => {
@@ -69,7 +69,7 @@ impl<'a> Tables<'a> {
     }
 
     /// Puts a thread.
-    fn put_thread(&self, page: &mut Page, thread: ObjId) {
+    fn put_thread(&self, page: &mut TextBuffer, thread: ObjId) {
         page.put(b"  ");
         page.object(self.names, thread);
         if let Some(priority) = self.kernel.priority(thread) {
@@ -89,7 +89,7 @@ impl<'a> Tables<'a> {
     }
 
     /// Appends a queued thread, with the message that it sent.
-    fn put_standing(&self, page: &mut Page, thread: ObjId) {
+    fn put_standing(&self, page: &mut TextBuffer, thread: ObjId) {
         page.put(b" ");
         page.object(self.names, thread);
         if let Some(letter) = self.kernel.open(thread) {
@@ -103,7 +103,7 @@ impl<'a> Tables<'a> {
     }
 
     /// Appends a queue with its threads and their messages, if it is not empty.
-    fn put_queue(&self, page: &mut Page, queue: Queue) {
+    fn put_queue(&self, page: &mut TextBuffer, queue: Queue) {
         let mut is_first = true;
         for thread in self.kernel.queue(queue) {
             if is_first {
@@ -120,7 +120,7 @@ impl<'a> Tables<'a> {
     }
 
     /// Appends the chain of a context.
-    fn put_chain(&self, page: &mut Page, context: ObjId) {
+    fn put_chain(&self, page: &mut TextBuffer, context: ObjId) {
         let mut is_first = true;
         for reply in self.kernel.chain(context) {
             if is_first {
@@ -134,7 +134,7 @@ impl<'a> Tables<'a> {
     }
 
     /// Appends a context, if it exists.
-    fn put_context(&self, page: &mut Page, context: ObjId) {
+    fn put_context(&self, page: &mut TextBuffer, context: ObjId) {
         let Some(core) = self.kernel.core(context) else {
             return;
         };
@@ -152,7 +152,7 @@ impl<'a> Tables<'a> {
     }
 
     /// Appends a thread that uses a reply object, after words for how, if there is one.
-    fn put_user(&self, page: &mut Page, reply: ObjId, words: &[u8], thread: Option<ObjId>) {
+    fn put_user(&self, page: &mut TextBuffer, reply: ObjId, words: &[u8], thread: Option<ObjId>) {
         if thread.is_some() {
             page.put(b"  ");
             page.object(self.names, reply);
@@ -162,7 +162,7 @@ impl<'a> Tables<'a> {
     }
 
     /// Appends a notification, if its word is pending or a thread is bound to it.
-    fn put_notification(&self, page: &mut Page, notification: ObjId) {
+    fn put_notification(&self, page: &mut TextBuffer, notification: ObjId) {
         let word = self.kernel.word(notification);
         let tied = self.kernel.tied(notification);
         if word.is_none() && tied.is_none() {
@@ -180,7 +180,7 @@ impl<'a> Tables<'a> {
     }
 
     /// Appends the filled slots of a CNode.
-    fn put_slots(&self, page: &mut Page, cnode: ObjId) {
+    fn put_slots(&self, page: &mut TextBuffer, cnode: ObjId) {
         for index in 0..=u8::MAX {
             if let Some(cap) = self.kernel.capability(cnode, index) {
                 page.put(b"  ");
@@ -195,7 +195,7 @@ impl<'a> Tables<'a> {
     }
 
     /// Appends an object of a kind.
-    fn put_object(&self, page: &mut Page, object: ObjId) {
+    fn put_object(&self, page: &mut TextBuffer, object: ObjId) {
         match object.kind {
             Kind::Thread => self.put_thread(page, object),
             Kind::Endpoint => {
@@ -213,7 +213,7 @@ impl<'a> Tables<'a> {
     }
 
     /// Appends all objects of a kind, under a title.
-    fn put_kind(&self, page: &mut Page, title: &[u8], kind: Kind) {
+    fn put_kind(&self, page: &mut TextBuffer, title: &[u8], kind: Kind) {
         page.put(title);
         for serial in 1..=self.kernel.made(kind) {
             self.put_object(page, object(kind, serial));
@@ -222,7 +222,7 @@ impl<'a> Tables<'a> {
 }
 
 /// Appends the state of each thread and object.
-pub fn put_tables(page: &mut Page, kernel: &Kernel<LinkedLines>, names: &Names) {
+pub fn put_tables(page: &mut TextBuffer, kernel: &Kernel<LinkedLines>, names: &Labels) {
     let tables = Tables { kernel, names };
     tables.put_kind(page, b"threads\n", Kind::Thread);
     tables.put_kind(page, b"queues\n", Kind::Endpoint);

@@ -1,10 +1,10 @@
 //! The state of each thread, as JSON. The members of an object are in the order of their names.
 use crate::named::{KINDS, NamesMember};
-use crate::page::Page;
+use crate::page::TextBuffer;
 use crate::spaces::object;
 use crate::stuck::Waits;
 use mcs_kernel::Kernel;
-use mcs_lab_check::Names;
+use mcs_lab_check::Labels;
 use mcs_queues::LinkedLines;
 use mcs_text::Token;
 use mcs_types::{Kind, Letter, Mail, Message, ObjId, Queue, Status};
@@ -13,11 +13,11 @@ use mcs_types::{Kind, Letter, Mail, Message, ObjId, Queue, Status};
 #[derive(Drop)]
 struct Values<'a> {
     kernel: &'a Kernel<LinkedLines>,
-    names: &'a Names,
+    names: &'a Labels,
 }
 
 /// Appends the words of a message.
-fn put_words(page: &mut Page, message: &Message) {
+fn put_words(page: &mut TextBuffer, message: &Message) {
     page.put(b"\"words\":[");
     let mut is_first = true;
     for word in message.words() {
@@ -29,7 +29,7 @@ fn put_words(page: &mut Page, message: &Message) {
 }
 
 /// Appends what a thread is blocked on, and its status: the last members of an object.
-fn put_status(page: &mut Page, status: Option<Status>) {
+fn put_status(page: &mut TextBuffer, status: Option<Status>) {
     let word = match status {
         Some(Status::Running) => b"running".as_slice(),
         Some(Status::Restart) => b"restart".as_slice(),
@@ -52,7 +52,7 @@ fn put_status(page: &mut Page, status: Option<Status>) {
 
 impl<'a> Values<'a> {
     /// Appends what last reached a thread.
-    fn put_mail(&self, page: &mut Page, thread: ObjId) {
+    fn put_mail(&self, page: &mut TextBuffer, thread: ObjId) {
         match self.kernel.mail(thread) {
             None => page.put(b"null"),
             Some(Mail::Word { word }) => {
@@ -73,7 +73,7 @@ impl<'a> Values<'a> {
     }
 
     /// Puts a thread.
-    fn put_thread(&self, page: &mut Page, thread: ObjId) {
+    fn put_thread(&self, page: &mut TextBuffer, thread: ObjId) {
         page.put(b"{\"bound\":");
         page.maybe(self.kernel.bound(thread));
         page.put(b",\"context\":");
@@ -92,7 +92,7 @@ impl<'a> Values<'a> {
     }
 
     /// Appends a queued thread, with the message that it sent.
-    fn put_letter(&self, page: &mut Page, thread: ObjId, letter: &Letter) {
+    fn put_letter(&self, page: &mut TextBuffer, thread: ObjId, letter: &Letter) {
         page.put(b"{\"badge\":");
         page.wide(letter.badge.0);
         page.put(b",\"id\":");
@@ -108,7 +108,7 @@ impl<'a> Values<'a> {
     }
 
     /// Appends a queued thread.
-    fn put_standing(&self, page: &mut Page, thread: ObjId) {
+    fn put_standing(&self, page: &mut TextBuffer, thread: ObjId) {
         match self.kernel.open(thread) {
             Some(letter) => self.put_letter(page, thread, letter),
             None => {
@@ -122,7 +122,7 @@ impl<'a> Values<'a> {
 
     /// Appends a queue, with a comma unless it is the first; nothing if it is empty. Returns
     /// whether it was appended.
-    fn put_queue(&self, page: &mut Page, queue: Queue, is_first: bool) -> bool {
+    fn put_queue(&self, page: &mut TextBuffer, queue: Queue, is_first: bool) -> bool {
         let mut is_empty = true;
         for thread in self.kernel.queue(queue) {
             if is_empty {
@@ -143,7 +143,7 @@ impl<'a> Values<'a> {
     }
 
     /// Appends all queues that are not empty.
-    fn put_queues(&self, page: &mut Page) {
+    fn put_queues(&self, page: &mut TextBuffer) {
         let mut is_first = true;
         for serial in 1..=self.kernel.made(Kind::Endpoint) {
             let endpoint = object(Kind::Endpoint, serial);
@@ -163,7 +163,7 @@ impl<'a> Values<'a> {
     }
 
     /// Appends the chain of a context.
-    fn put_chain(&self, page: &mut Page, context: ObjId) {
+    fn put_chain(&self, page: &mut TextBuffer, context: ObjId) {
         let mut is_first = true;
         for reply in self.kernel.chain(context) {
             page.between(is_first);
@@ -173,7 +173,7 @@ impl<'a> Values<'a> {
     }
 
     /// Appends an object that was closed.
-    fn put_closed(&self, page: &mut Page, object: ObjId) {
+    fn put_closed(&self, page: &mut TextBuffer, object: ObjId) {
         page.put(b"{\"id\":");
         page.quoted_word(&Token::Name(object));
         page.name_member(self.names, object);
@@ -182,7 +182,7 @@ impl<'a> Values<'a> {
     }
 
     /// Appends a context.
-    fn put_context(&self, page: &mut Page, context: ObjId) {
+    fn put_context(&self, page: &mut TextBuffer, context: ObjId) {
         let Some(core) = self.kernel.core(context) else {
             return self.put_closed(page, context);
         };
@@ -201,7 +201,7 @@ impl<'a> Values<'a> {
     }
 
     /// Appends a reply object.
-    fn put_reply(&self, page: &mut Page, reply: ObjId) {
+    fn put_reply(&self, page: &mut TextBuffer, reply: ObjId) {
         page.put(b"{\"id\":");
         page.quoted_word(&Token::Name(reply));
         page.name_member(self.names, reply);
@@ -213,7 +213,7 @@ impl<'a> Values<'a> {
     }
 
     /// Appends a notification.
-    fn put_notification(&self, page: &mut Page, notification: ObjId) {
+    fn put_notification(&self, page: &mut TextBuffer, notification: ObjId) {
         page.put(b"{\"bound\":");
         page.maybe(self.kernel.tied(notification));
         page.put(b",\"id\":");
@@ -228,7 +228,7 @@ impl<'a> Values<'a> {
     }
 
     /// Appends the filled slots of a CNode.
-    fn put_cnode(&self, page: &mut Page, cnode: ObjId) {
+    fn put_cnode(&self, page: &mut TextBuffer, cnode: ObjId) {
         page.put(b"{\"id\":");
         page.quoted_word(&Token::Name(cnode));
         page.name_member(self.names, cnode);
@@ -250,7 +250,7 @@ impl<'a> Values<'a> {
     }
 
     /// Appends an endpoint; its threads are among those of all queues.
-    fn put_endpoint(&self, page: &mut Page, endpoint: ObjId) {
+    fn put_endpoint(&self, page: &mut TextBuffer, endpoint: ObjId) {
         page.put(b"{\"id\":");
         page.quoted_word(&Token::Name(endpoint));
         page.name_member(self.names, endpoint);
@@ -258,7 +258,7 @@ impl<'a> Values<'a> {
     }
 
     /// Appends an object of a kind. A thread has its members even if it was closed.
-    fn put_object(&self, page: &mut Page, object: ObjId) {
+    fn put_object(&self, page: &mut TextBuffer, object: ObjId) {
         if !self.kernel.is_there(object) && !object.kind.is_same(Kind::Thread) {
             return self.put_closed(page, object);
         }
@@ -273,7 +273,7 @@ impl<'a> Values<'a> {
     }
 
     /// Appends all objects of a kind, after the name of the list.
-    fn put_all(&self, page: &mut Page, name: &[u8], kind: Kind) {
+    fn put_all(&self, page: &mut TextBuffer, name: &[u8], kind: Kind) {
         page.put(name);
         for serial in 1..=self.kernel.made(kind) {
             page.between(serial == 1);
@@ -283,7 +283,7 @@ impl<'a> Values<'a> {
     }
 
     /// Appends the names of all objects, if there are some, and a comma.
-    fn put_names(&self, page: &mut Page) {
+    fn put_names(&self, page: &mut TextBuffer) {
         let mut member = NamesMember::new(self.names, true);
         for kind in KINDS {
             member.put_kind(page, *kind, self.kernel.made(*kind));
@@ -294,7 +294,7 @@ impl<'a> Values<'a> {
     }
 
     /// Appends the threads for which a thread waits.
-    fn put_waited(&self, page: &mut Page, waits: &Waits, thread: ObjId) {
+    fn put_waited(&self, page: &mut TextBuffer, waits: &Waits, thread: ObjId) {
         let mut is_first = true;
         for serial in 1..=self.kernel.made(Kind::Thread) {
             let other = object(Kind::Thread, serial);
@@ -307,7 +307,7 @@ impl<'a> Values<'a> {
     }
 
     /// Appends the stuck threads, and the threads that each waits for.
-    fn put_stuck(&self, page: &mut Page, waits: &Waits) {
+    fn put_stuck(&self, page: &mut TextBuffer, waits: &Waits) {
         page.put(b"\"stuck\":[");
         let mut is_first = true;
         for serial in 1..=self.kernel.made(Kind::Thread) {
@@ -333,9 +333,9 @@ impl<'a> Values<'a> {
 
 /// Appends the state of each thread as one JSON object, or only the stuck threads.
 pub fn put_values(
-    page: &mut Page,
+    page: &mut TextBuffer,
     kernel: &Kernel<LinkedLines>,
-    names: &Names,
+    names: &Labels,
     waits: &Waits,
     only_stuck: bool,
 ) {

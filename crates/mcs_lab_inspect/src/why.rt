@@ -1,11 +1,11 @@
 //! Why a step did nothing, in words.
 use crate::hints::put_hints;
-use crate::page::Page;
+use crate::page::TextBuffer;
 use crate::path::put_path;
 use crate::stuck::{Waits, taker_of};
 use mcs_kernel::{EnterFault, Kernel};
 use mcs_lab_check::{
-    Judge, LabFault, Last, Names, TakesLines, Told, bare, entrant_of, flaw_of, take_lines,
+    Judge, LabFault, Labels, Last, LineResult, TakesLines, bare, entrant_of, flaw_of, take_lines,
 };
 use mcs_lab_forms::{Fields, LooksUp, form_of, number_of};
 use mcs_queues::LinkedLines;
@@ -63,8 +63,8 @@ struct Refused {
 /// Appends that lookup gives an address this refusal, and where the address leads. Returns false if
 /// it does not.
 fn put_address(
-    page: &mut Page,
-    names: &Names,
+    page: &mut TextBuffer,
+    names: &Labels,
     kernel: &Kernel<LinkedLines>,
     step: Refused,
     address: u64,
@@ -83,8 +83,8 @@ fn put_address(
 /// Appends that lookup gives a place this refusal, and where the place leads. Returns false if it
 /// does not.
 fn put_place(
-    page: &mut Page,
-    names: &Names,
+    page: &mut TextBuffer,
+    names: &Labels,
     kernel: &Kernel<LinkedLines>,
     step: Refused,
     place: Place,
@@ -116,8 +116,8 @@ fn place_of(index: u64, fields: &mut Fields<'_>, words: &mut Words<'_>) -> Optio
 /// Appends the first address or place of a step, from the words after its key, that lookup refuses
 /// so, if any.
 fn put_first_refused(
-    page: &mut Page,
-    names: &Names,
+    page: &mut TextBuffer,
+    names: &Labels,
     kernel: &Kernel<LinkedLines>,
     step: Refused,
     fields: &mut Fields<'_>,
@@ -148,8 +148,8 @@ fn put_first_refused(
 
 /// Appends the address or place of a step that lookup refuses so, if any.
 fn put_refused(
-    page: &mut Page,
-    names: &Names,
+    page: &mut TextBuffer,
+    names: &Labels,
     kernel: &Kernel<LinkedLines>,
     step: &[u8],
     refusal: Refusal,
@@ -177,8 +177,8 @@ fn put_refused(
 /// Appends the thread that took the call for which a reply object owes a reply.
 fn put_taker(
     alloc: Global,
-    page: &mut Page,
-    names: &Names,
+    page: &mut TextBuffer,
+    names: &Labels,
     kernel: &Kernel<LinkedLines>,
     reply: ObjId,
 ) {
@@ -193,12 +193,12 @@ fn put_taker(
     }
 }
 
-/// Appends a thread and why it does not run: its queue, the reply that it waits for and who took
-/// its call, or that it is inactive or closed.
+/// Appends a thread and why it does not run: its queue, the reply that it waits for and which
+/// thread took its call, or that it is inactive or closed.
 fn put_status(
     alloc: Global,
-    page: &mut Page,
-    names: &Names,
+    page: &mut TextBuffer,
+    names: &Labels,
     kernel: &Kernel<LinkedLines>,
     thread: ObjId,
 ) {
@@ -221,7 +221,12 @@ fn put_status(
 }
 
 /// Appends of which core the context of a thread is.
-fn put_other_core(page: &mut Page, names: &Names, kernel: &Kernel<LinkedLines>, thread: ObjId) {
+fn put_other_core(
+    page: &mut TextBuffer,
+    names: &Labels,
+    kernel: &Kernel<LinkedLines>,
+    thread: ObjId,
+) {
     page.object(names, thread);
     page.put(b" holds ");
     let Some(context) = kernel.context(thread) else {
@@ -237,8 +242,8 @@ fn put_other_core(page: &mut Page, names: &Names, kernel: &Kernel<LinkedLines>, 
 /// Appends why a thread may not enter on a core.
 fn put_reason(
     alloc: Global,
-    page: &mut Page,
-    names: &Names,
+    page: &mut TextBuffer,
+    names: &Labels,
     kernel: &Kernel<LinkedLines>,
     core: CoreId,
     thread: ObjId,
@@ -255,7 +260,7 @@ fn put_reason(
 }
 
 /// Appends that a debt ended without an answer.
-fn put_void(page: &mut Page, names: &Names, reply: ObjId, caller: ObjId, ending: Ending) {
+fn put_void(page: &mut TextBuffer, names: &Labels, reply: ObjId, caller: ObjId, ending: Ending) {
     page.object(names, reply);
     page.put(b" owed ");
     page.object(names, caller);
@@ -266,7 +271,7 @@ fn put_void(page: &mut Page, names: &Names, reply: ObjId, caller: ObjId, ending:
 }
 
 /// Appends what a record means for the thread that waits for a reply.
-fn put_record(page: &mut Page, names: &Names, record: &Rec) {
+fn put_record(page: &mut TextBuffer, names: &Labels, record: &Rec) {
     match record {
         Rec::Sent {
             sender,
@@ -404,16 +409,16 @@ fn dropped_at(kernel: &Kernel<LinkedLines>, entered: &Entered) -> Option<ObjId> 
 #[derive(Drop)]
 struct Teller {
     judge: Judge,
-    names: Names,
-    page: Page,
+    names: Labels,
+    page: TextBuffer,
 }
 
 impl Teller {
     /// Returns an explainer before the first line. The judge is made last, so that no fault has to
     /// drop it.
     fn new(alloc: Global) -> Result<Teller, LabFault> {
-        let page = Page::new(alloc)?;
-        let names = Names::new(alloc);
+        let page = TextBuffer::new(alloc)?;
+        let names = Labels::new(alloc);
         let judge = Judge::new(alloc)?;
         Ok(Teller { judge, names, page })
     }
@@ -561,17 +566,17 @@ impl Teller {
 
     /// Takes a line of the script.
     fn take(&mut self, alloc: Global, line: &[u8]) -> Result<(), LabFault> {
-        let told = match self.judge.take(alloc, line) {
-            Ok(told) => told,
+        let line_result = match self.judge.take(alloc, line) {
+            Ok(line_result) => line_result,
             Err(fault) => {
                 self.tell_fault(alloc, line, fault);
                 return Err(fault);
             }
         };
-        match (told, self.judge.last()) {
-            (Told::Nothing, _) => return self.names.hear(alloc, self.judge.line(), line),
-            (Told::Step, Last::Away) => self.tell_away(alloc),
-            (Told::Step, Last::LetIn { .. }) => self.tell_entered(alloc),
+        match (line_result, self.judge.last()) {
+            (LineResult::Nothing, _) => return self.names.hear(alloc, self.judge.line(), line),
+            (LineResult::Step, Last::Away) => self.tell_away(alloc),
+            (LineResult::Step, Last::LetIn { .. }) => self.tell_entered(alloc),
             _ => {}
         }
         Ok(())

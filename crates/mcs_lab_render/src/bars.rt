@@ -1,12 +1,12 @@
 //! The bars of lanes on the page.
-use crate::naming::{Names, put_full_name};
+use crate::naming::{Naming, put_full_name};
 use crate::notes::{is_ready, put_look, put_whole_look};
 use crate::paper::{Area, put_area, put_attribute};
 use crate::plans::Plan;
 use crate::scene::{Scene, place_of};
 use crate::texts::Words;
 use mcs_lab_diagram::{Drawing, Look};
-use mcs_lab_inspect::Page;
+use mcs_lab_inspect::TextBuffer;
 use mcs_types::{ObjId, Status};
 
 /// How many colours there are.
@@ -36,7 +36,7 @@ impl Bar {
 }
 
 /// Appends the status of a thread; running threads differ from those that are only ready.
-pub fn put_state<N: Names>(to: &mut Page, names: &N, look: Look, is_picked: bool) {
+pub fn put_state<N: Naming>(to: &mut TextBuffer, names: &N, look: Look, is_picked: bool) {
     if !is_ready(look.status) {
         return put_whole_look(to, names, look);
     }
@@ -45,7 +45,7 @@ pub fn put_state<N: Names>(to: &mut Page, names: &N, look: Look, is_picked: bool
 }
 
 /// Appends a box in the colour of a context.
-fn put_coloured(to: &mut Page, context: ObjId, more: &str, area: Area, title: &str) {
+fn put_coloured(to: &mut TextBuffer, context: ObjId, more: &str, area: Area, title: &str) {
     let serial = context.serial.saturating_sub(1);
     put_attribute(to, b"<g class=\"k", (serial % COLOURS) as u64);
     to.put(b">");
@@ -62,7 +62,7 @@ fn put_coloured(to: &mut Page, context: ObjId, more: &str, area: Area, title: &s
 }
 
 /// Appends a thin bar: a thread that is ready without a context.
-fn put_bare(to: &mut Page, area: Area, title: &str) {
+fn put_bare(to: &mut TextBuffer, area: Area, title: &str) {
     let thin = Area {
         x: area.x.saturating_add(HALF - 1),
         width: 2,
@@ -107,7 +107,7 @@ pub fn shape_of(look: Look, is_picked: bool) -> Shape {
 
 /// Appends the bar of a thread that waits or is inactive, with a strip for the context that it
 /// holds.
-fn put_holding(to: &mut Page, class: &str, context: Option<ObjId>, area: Area, title: &str) {
+fn put_holding(to: &mut TextBuffer, class: &str, context: Option<ObjId>, area: Area, title: &str) {
     put_area(to, class, area, title);
     if let Some(context) = context {
         let strip = Area {
@@ -119,7 +119,7 @@ fn put_holding(to: &mut Page, class: &str, context: Option<ObjId>, area: Area, t
 }
 
 /// Appends a bar with this title.
-pub fn put_bar(to: &mut Page, shape: Shape, area: Area, title: &str) {
+pub fn put_bar(to: &mut TextBuffer, shape: Shape, area: Area, title: &str) {
     match shape {
         Shape::Runs(context) => put_coloured(to, context, "run", area, title),
         Shape::Ready(context) => put_coloured(to, context, "ready", area, title),
@@ -131,7 +131,7 @@ pub fn put_bar(to: &mut Page, shape: Shape, area: Area, title: &str) {
 }
 
 /// Appends the title of a bar: its thread, the lines after which it looks so, and its status.
-fn put_title<N: Names>(to: &mut Page, names: &N, thread: ObjId, bar: Bar) {
+fn put_title<N: Naming>(to: &mut TextBuffer, names: &N, thread: ObjId, bar: Bar) {
     put_full_name(to, names, thread);
     if bar.first == bar.last {
         to.put(b", after line ");
@@ -148,7 +148,7 @@ fn put_title<N: Names>(to: &mut Page, names: &N, thread: ObjId, bar: Bar) {
 
 /// Appends a bar with this title, down to this height, in a group with the first and the last line
 /// after which it is shown.
-fn put_group(to: &mut Page, x: u64, bar: Bar, bottom: u64, title: &str) {
+fn put_group(to: &mut TextBuffer, x: u64, bar: Bar, bottom: u64, title: &str) {
     let area = Area {
         x: x.saturating_sub(HALF),
         y: bar.top,
@@ -171,9 +171,9 @@ struct Lane<'a, N> {
     current: Option<Bar>,
 }
 
-impl<'a, N: Names> Lane<'a, N> {
+impl<'a, N: Naming> Lane<'a, N> {
     /// Ends the current bar of the lane at this height.
-    fn end(&self, words: &mut Words, to: &mut Page, bottom: u64) {
+    fn end(&self, words: &mut Words, to: &mut TextBuffer, bottom: u64) {
         let Some(bar) = self.current else {
             return;
         };
@@ -186,7 +186,7 @@ impl<'a, N: Names> Lane<'a, N> {
 
     /// Takes how the thread looks after a line: the current bar continues, or ends where this one
     /// begins.
-    fn take(&mut self, words: &mut Words, to: &mut Page, next: Bar) {
+    fn take(&mut self, words: &mut Words, to: &mut TextBuffer, next: Bar) {
         let current = self.current;
         self.current = match current {
             Some(bar) if bar.is_like(next) => Some(Bar {
@@ -213,9 +213,9 @@ fn bar_of(drawing: &Drawing, thread: ObjId, number: usize, top: u64) -> Bar {
 }
 
 /// Appends the bars of the lane of a thread.
-fn put_lane<N: Names>(
+fn put_lane<N: Naming>(
     words: &mut Words,
-    to: &mut Page,
+    to: &mut TextBuffer,
     scene: &Scene<'_, N>,
     plan: &Plan,
     thread: ObjId,
@@ -235,7 +235,12 @@ fn put_lane<N: Names>(
 }
 
 /// Appends the bars of all lanes.
-pub fn put_bars<N: Names>(words: &mut Words, to: &mut Page, scene: &Scene<'_, N>, plan: &Plan) {
+pub fn put_bars<N: Naming>(
+    words: &mut Words,
+    to: &mut TextBuffer,
+    scene: &Scene<'_, N>,
+    plan: &Plan,
+) {
     for (lane, thread) in plan.threads.iter().enumerate() {
         let x = plan.lanes.get(lane).copied().unwrap_or(0);
         put_lane(words, to, scene, plan, *thread, x);

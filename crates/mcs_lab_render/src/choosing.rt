@@ -2,8 +2,8 @@
 use crate::naming::put_name;
 use crate::script_names::ScriptNames;
 use crate::texts::take_text;
-use mcs_lab_check::{Judge, Named, Names, object_of};
-use mcs_lab_inspect::Page;
+use mcs_lab_check::{Judge, Labels, Named, object_of};
+use mcs_lab_inspect::TextBuffer;
 use mcs_types::{Kind, ObjId};
 use std::alloc::{AllocError, Global};
 
@@ -34,7 +34,7 @@ fn count_of(judge: &Judge) -> u32 {
 }
 
 /// Returns the object with this id, or the only one with this name.
-fn object_named(names: &Names, word: &[u8]) -> Option<ObjId> {
+fn object_named(names: &Labels, word: &[u8]) -> Option<ObjId> {
     if let Some(object) = object_of(word) {
         return Some(object);
     }
@@ -45,7 +45,7 @@ fn object_named(names: &Names, word: &[u8]) -> Option<ObjId> {
 }
 
 /// Returns the thread that a word names, among `count` threads.
-fn thread_of(names: &Names, count: u32, word: &[u8]) -> Option<ObjId> {
+fn thread_of(names: &Labels, count: u32, word: &[u8]) -> Option<ObjId> {
     let object = object_named(names, word)?;
     let place = object.place(Kind::Thread)?;
     if place < count as usize {
@@ -56,8 +56,8 @@ fn thread_of(names: &Names, count: u32, word: &[u8]) -> Option<ObjId> {
 }
 
 /// Returns the names of the first threads, separated by commas.
-fn names_of(alloc: Global, names: &Names, count: u32) -> Result<String, AllocError> {
-    let mut page = Page::new(alloc)?;
+fn names_of(alloc: Global, names: &Labels, count: u32) -> Result<String, AllocError> {
+    let mut page = TextBuffer::new(alloc)?;
     for before in 0..count.min(MOST) {
         if before > 0 {
             page.put(b", ");
@@ -85,7 +85,7 @@ fn add(threads: &mut Vec<ObjId>, thread: ObjId) -> Result<(), AllocError> {
 pub fn threads_named<'a>(
     alloc: Global,
     judge: &Judge,
-    names: &Names,
+    names: &Labels,
     words: &'a str,
 ) -> Result<Vec<ObjId>, NoThreads<'a>> {
     let count = count_of(judge);

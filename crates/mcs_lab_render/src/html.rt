@@ -1,13 +1,13 @@
 //! The picture as a page of its own, through which a reader steps by keys, by a slider, and by
 //! clicks on rows. The panel with the step is beside the picture, and below it in narrow windows;
 //! both scroll by themselves, so neither hides the other. The heads of the lanes stay in sight.
-use crate::naming::Names;
+use crate::naming::Naming;
 use crate::paper::put_attribute;
 use crate::scene::Scene;
 use crate::svg::svg_of;
 use crate::texts::{put_escaped, take_text};
 use mcs_lab_diagram::Window;
-use mcs_lab_inspect::Page;
+use mcs_lab_inspect::TextBuffer;
 use std::alloc::{AllocError, Global};
 
 /// The page before the title.
@@ -71,7 +71,7 @@ const PANEL: &str = "</h1>
 <input id=\"slider\" type=\"range\" ";
 
 /// The page after those numbers.
-const BEHIND: &str = ">
+const AFTER: &str = ">
 <p><button id=\"back\" type=\"button\">Back</button> <button id=\"next\" type=\"button\">Next</button></p>
 <p id=\"step\" aria-live=\"polite\"></p>
 <ul id=\"states\"></ul>
@@ -182,7 +182,7 @@ const BEHIND: &str = ">
 ";
 
 /// Appends the numbers of the first line and the last, and of the one at which the page begins.
-fn put_slider(to: &mut Page, shown: Window) {
+fn put_slider(to: &mut TextBuffer, shown: Window) {
     put_attribute(to, b"min=\"", shown.first.saturating_sub(1) as u64);
     put_attribute(to, b" max=\"", shown.last as u64);
     put_attribute(to, b" value=\"", shown.first.min(shown.last) as u64);
@@ -190,13 +190,13 @@ fn put_slider(to: &mut Page, shown: Window) {
 
 /// Returns the picture of a scene as an HTML page with this title, which needs no other file. It
 /// begins at the first line that is shown.
-pub fn html_of<N: Names>(
+pub fn html_of<N: Naming>(
     alloc: Global,
     scene: &Scene<'_, N>,
     title: &str,
 ) -> Result<String, AllocError> {
     let picture = svg_of(alloc, scene, title)?;
-    let mut page = Page::new(alloc)?;
+    let mut page = TextBuffer::new(alloc)?;
     page.put(HEAD.as_bytes());
     put_escaped(&mut page, title);
     page.put(BEFORE.as_bytes());
@@ -205,6 +205,6 @@ pub fn html_of<N: Names>(
     put_escaped(&mut page, title);
     page.put(PANEL.as_bytes());
     put_slider(&mut page, scene.window);
-    page.put(BEHIND.as_bytes());
+    page.put(AFTER.as_bytes());
     take_text(alloc, &mut page)
 }

@@ -1,6 +1,6 @@
 //! Lays out a page: first its rows with texts and arrows, then the heights of the rows and the
 //! positions of the lanes.
-use crate::naming::{Names, put_name};
+use crate::naming::{Naming, put_name};
 use crate::notes::{FEW, has_note, marked, put_label, put_look, put_lost, put_mark};
 use crate::numbers::put_words;
 use crate::paper::LOST_TEXT;
@@ -62,7 +62,7 @@ struct Planner<'a, N> {
     plan: Plan,
 }
 
-/// Returns the text in the buffer, without its newline.
+/// Returns the text of the buffer without the newline at its end.
 fn spelled(line: &Line) -> &str {
     match str::from_utf8(line.text()) {
         Ok(text) => text.trim_end(),
@@ -79,7 +79,7 @@ fn entry_part(step: &str) -> &str {
 }
 
 /// Appends a step with the name of its thread, and with its core if the machine has several.
-fn put_spelled<N: Names>(
+fn put_spelled<N: Naming>(
     alloc: Global,
     words: &mut Words,
     scene: &Scene<'_, N>,
@@ -95,7 +95,7 @@ fn put_spelled<N: Names>(
 }
 
 /// Returns the text of a step: from its file, or else as a script spells it.
-fn step_text<N: Names>(
+fn step_text<N: Naming>(
     alloc: Global,
     words: &mut Words,
     scene: &Scene<'_, N>,
@@ -127,7 +127,7 @@ fn why_away(why: EnterFault) -> &'static str {
     }
 }
 
-impl<'a, N: Names> Planner<'a, N> {
+impl<'a, N: Naming> Planner<'a, N> {
     /// Returns how the thread of a lane looks after a line.
     fn look(&self, number: usize, lane: usize) -> Look {
         match self.plan.threads.get(lane) {
@@ -556,7 +556,7 @@ impl<'a, N: Names> Planner<'a, N> {
     /// Adds the row of a skipped step, by its index among them.
     fn add_away(&mut self, away: &Away, place: usize) -> Result<(), AllocError> {
         let scene = self.scene;
-        let mut row = Row::new(self.alloc, RowKind::Away, away.behind);
+        let mut row = Row::new(self.alloc, RowKind::Away, away.after);
         row.thread = Some(away.thread);
         let origin = scene.steps.of_skipped(place);
         row.line = origin.map(|origin| origin.line);
@@ -579,10 +579,10 @@ impl<'a, N: Names> Planner<'a, N> {
             let Some(away) = drawing.away.get(at) else {
                 return Ok(());
             };
-            if away.behind > number {
+            if away.after > number {
                 return Ok(());
             }
-            if away.behind == number && self.plan.lane_of(away.thread).is_some() {
+            if away.after == number && self.plan.lane_of(away.thread).is_some() {
                 self.add_away(away, at)?;
             }
             self.next_away = at.saturating_add(1);
@@ -775,7 +775,7 @@ fn widen(gaps: &mut Vec<u64>, gap: usize, text: &str, more: u64) {
 }
 
 /// Returns the page of a scene. `AllocError` if an allocation fails.
-pub fn plan_of<N: Names>(alloc: Global, scene: &Scene<'_, N>) -> Result<Plan, AllocError> {
+pub fn plan_of<N: Naming>(alloc: Global, scene: &Scene<'_, N>) -> Result<Plan, AllocError> {
     let threads = Vec::from_slice(alloc, scene.threads)?;
     let before = scene.window.first.saturating_sub(1);
     let mut planner = Planner {

@@ -1,13 +1,13 @@
 //! What is below the lanes: the state of every thread at the end, and the legend of colours and
 //! lines.
 use crate::bars::{Shape, put_bar, put_state, shape_of};
-use crate::naming::{Names, put_full_name};
+use crate::naming::{Naming, put_full_name};
 use crate::paper::{Area, put_far, put_lost_line, put_point, put_text};
 use crate::plans::{COLUMN, Counts, Plan, SLOT};
 use crate::scene::{Scene, place_of};
 use crate::texts::{Words, columns};
 use mcs_lab_diagram::{Drawing, Look};
-use mcs_lab_inspect::Page;
+use mcs_lab_inspect::TextBuffer;
 use mcs_types::{Kind, ObjId};
 use std::alloc::{AllocError, Global};
 
@@ -19,7 +19,7 @@ const BAR: u64 = 18;
 const ARROW: u64 = 36;
 
 /// Appends the text in `words` at the left edge.
-fn put_line_of(words: &mut Words, to: &mut Page, class: &str, y: u64) {
+fn put_line_of(words: &mut Words, to: &mut TextBuffer, class: &str, y: u64) {
     match words.take() {
         Ok(text) => put_text(to, class, LEFT, y, text.as_str()),
         Err(_) => to.cut(),
@@ -27,7 +27,7 @@ fn put_line_of(words: &mut Words, to: &mut Page, class: &str, y: u64) {
 }
 
 /// Appends after which line the picture ends.
-fn put_place(to: &mut Page, drawing: &Drawing, last: usize) {
+fn put_place(to: &mut TextBuffer, drawing: &Drawing, last: usize) {
     if last == drawing.lines() {
         return to.put(b"At the end");
     }
@@ -36,7 +36,7 @@ fn put_place(to: &mut Page, drawing: &Drawing, last: usize) {
 }
 
 /// Appends the state of a thread at the end.
-fn put_thread<N: Names>(to: &mut Page, scene: &Scene<'_, N>, thread: ObjId) {
+fn put_thread<N: Naming>(to: &mut TextBuffer, scene: &Scene<'_, N>, thread: ObjId) {
     let last = scene.window.last;
     let look: Look = scene.drawing.look(last, place_of(thread));
     put_full_name(to, scene.names, thread);
@@ -47,9 +47,9 @@ fn put_thread<N: Names>(to: &mut Page, scene: &Scene<'_, N>, thread: ObjId) {
 
 /// Appends the state of each thread with a lane at the end, a line each, and returns the height
 /// below them.
-pub fn put_end<N: Names>(
+pub fn put_end<N: Naming>(
     words: &mut Words,
-    to: &mut Page,
+    to: &mut TextBuffer,
     scene: &Scene<'_, N>,
     plan: &Plan,
 ) -> u64 {
@@ -96,13 +96,13 @@ impl Legend {
 }
 
 /// Appends the text of a sample.
-fn put_meaning(to: &mut Page, area: Area, sample: u64, text: &str) {
+fn put_meaning(to: &mut TextBuffer, area: Area, sample: u64, text: &str) {
     let (x, y) = (area.x.saturating_add(sample), area.y.saturating_add(11));
     put_text(to, "state", x, y, text);
 }
 
 /// Appends a sample of an arrow's line.
-fn put_line(to: &mut Page, class: &str, area: Area) {
+fn put_line(to: &mut TextBuffer, class: &str, area: Area) {
     let (x, y) = (area.x, area.y.saturating_add(7));
     to.put(b"<path class=\"arrow ");
     to.put(class.as_bytes());
@@ -161,7 +161,7 @@ pub struct Seen {
 }
 
 impl Seen {
-    /// Returns that no bar is seen, for `contexts` contexts.
+    /// Returns an empty record of seen bars, for `contexts` contexts.
     fn new(alloc: Global, contexts: u32) -> Result<Seen, AllocError> {
         let mut seen = Seen {
             contexts: Vec::new(alloc),
@@ -221,7 +221,7 @@ pub fn seen_in(alloc: Global, drawing: &Drawing, plan: &Plan) -> Result<Seen, Al
 }
 
 /// Appends the name of a context in the legend.
-fn put_context_name<N: Names>(to: &mut Page, names: &N, drawing: &Drawing, context: ObjId) {
+fn put_context_name<N: Naming>(to: &mut TextBuffer, names: &N, drawing: &Drawing, context: ObjId) {
     to.put(b"on ");
     put_full_name(to, names, context);
     if let Some(core) = drawing.kernel.core(context) {
@@ -231,16 +231,16 @@ fn put_context_name<N: Names>(to: &mut Page, names: &N, drawing: &Drawing, conte
 }
 
 /// Appends a sample bar and what it means.
-fn put_shape(to: &mut Page, legend: &mut Legend, shape: Shape, text: &str) {
+fn put_shape(to: &mut TextBuffer, legend: &mut Legend, shape: Shape, text: &str) {
     let area = legend.next(BAR, text);
     put_bar(to, shape, area, "");
     put_meaning(to, area, BAR, text);
 }
 
 /// Appends the colour of a context and what it means.
-fn put_context<N: Names>(
+fn put_context<N: Naming>(
     words: &mut Words,
-    to: &mut Page,
+    to: &mut TextBuffer,
     scene: &Scene<'_, N>,
     legend: &mut Legend,
     context: ObjId,
@@ -252,10 +252,10 @@ fn put_context<N: Names>(
     }
 }
 
-/// Appends the seen colours and what they mean.
-fn put_contexts<N: Names>(
+/// Appends the colours that the drawing uses, each with the context that it stands for.
+fn put_contexts<N: Naming>(
     words: &mut Words,
-    to: &mut Page,
+    to: &mut TextBuffer,
     scene: &Scene<'_, N>,
     legend: &mut Legend,
     seen: &Seen,
@@ -272,9 +272,9 @@ fn put_contexts<N: Names>(
 }
 
 /// Appends the legend below this height, and returns the height below it.
-pub fn put_legend<N: Names>(
+pub fn put_legend<N: Naming>(
     words: &mut Words,
-    to: &mut Page,
+    to: &mut TextBuffer,
     scene: &Scene<'_, N>,
     plan: &Plan,
     seen: &Seen,
@@ -296,7 +296,7 @@ pub fn put_legend<N: Names>(
 }
 
 /// Appends an arrow of this class and what it means, if there are any.
-fn put_arrow_kind(to: &mut Page, legend: &mut Legend, class: &str, count: usize, text: &str) {
+fn put_arrow_kind(to: &mut TextBuffer, legend: &mut Legend, class: &str, count: usize, text: &str) {
     if count == 0 {
         return;
     }
@@ -306,7 +306,7 @@ fn put_arrow_kind(to: &mut Page, legend: &mut Legend, class: &str, count: usize,
 }
 
 /// Appends the seen arrows and what they mean.
-fn put_arrow_kinds(to: &mut Page, legend: &mut Legend, counts: Counts) {
+fn put_arrow_kinds(to: &mut TextBuffer, legend: &mut Legend, counts: Counts) {
     put_arrow_kind(to, legend, "message", counts.messages, "message");
     put_arrow_kind(to, legend, "answer", counts.answers, "answer");
     put_arrow_kind(to, legend, "word", counts.words, "signal");

@@ -1,15 +1,15 @@
 //! The picture as a `sequenceDiagram` of Mermaid.
 use crate::layout::plan_of;
-use crate::naming::{Names, put_full_name, put_id};
+use crate::naming::{Naming, put_full_name, put_id};
 use crate::plans::{Note, NoteKind, Plan, Row, RowKind, Stroke};
 use crate::scene::Scene;
 use crate::texts::{Words, take_text};
 use mcs_lab_diagram::Shown;
-use mcs_lab_inspect::Page;
+use mcs_lab_inspect::TextBuffer;
 use mcs_types::ObjId;
 use std::alloc::{AllocError, Global};
 
-/// Names that are keywords of Mermaid.
+/// Keywords of Mermaid, which no participant may have as its name.
 const OWN_WORDS: &[&str] = &["actor", "as", "end", "note", "participant"];
 
 /// Returns whether a word is a keyword of Mermaid, in any case.
@@ -23,14 +23,14 @@ fn is_own(word: &[u8]) -> bool {
 }
 
 /// Appends a letter as its character code.
-fn put_number(to: &mut Page, letter: u8) {
+fn put_number(to: &mut TextBuffer, letter: u8) {
     to.put(b"#");
     to.number(letter as u64);
     to.put(b";");
 }
 
 /// Appends a word; of a keyword of Mermaid the first letter becomes a character code.
-fn put_word(to: &mut Page, word: &[u8]) {
+fn put_word(to: &mut TextBuffer, word: &[u8]) {
     match word {
         [first, rest @ ..] if is_own(word) => {
             put_number(to, *first);
@@ -42,7 +42,7 @@ fn put_word(to: &mut Page, word: &[u8]) {
 
 /// Appends a separator of words, after the byte `before`. Bytes that end a statement or belong to
 /// an arrow become character codes or names.
-fn put_between(to: &mut Page, before: u8, one: u8) {
+fn put_between(to: &mut TextBuffer, before: u8, one: u8) {
     match one {
         b';' | b'#' => put_number(to, one),
         b'-' if before == b'-' => put_number(to, one),
@@ -53,14 +53,14 @@ fn put_between(to: &mut Page, before: u8, one: u8) {
 }
 
 /// Appends the word between two positions of a text.
-fn put_word_in(to: &mut Page, text: &[u8], first: usize, end: usize) {
+fn put_word_in(to: &mut TextBuffer, text: &[u8], first: usize, end: usize) {
     if let Some(word) = text.get(first..end) {
         put_word(to, word);
     }
 }
 
 /// Appends a text, with escapes for what Mermaid would parse.
-fn put_text(to: &mut Page, text: &str) {
+fn put_text(to: &mut TextBuffer, text: &str) {
     let text = text.as_bytes();
     let mut first = 0;
     let mut before = b' ';
@@ -76,13 +76,13 @@ fn put_text(to: &mut Page, text: &str) {
 }
 
 /// Appends a text, and ends the line.
-fn put_plain(to: &mut Page, text: &str) {
+fn put_plain(to: &mut TextBuffer, text: &str) {
     put_text(to, text);
     to.put(b"\n");
 }
 
 /// Appends the declaration of a lane.
-fn put_participant<N: Names>(words: &mut Words, to: &mut Page, names: &N, thread: ObjId) {
+fn put_participant<N: Naming>(words: &mut Words, to: &mut TextBuffer, names: &N, thread: ObjId) {
     to.put(b"    participant ");
     put_id(to, thread);
     to.put(b" as ");
@@ -94,7 +94,7 @@ fn put_participant<N: Names>(words: &mut Words, to: &mut Page, names: &N, thread
 }
 
 /// Appends an arrow.
-fn put_message(to: &mut Page, stroke: &Stroke) {
+fn put_message(to: &mut TextBuffer, stroke: &Stroke) {
     let line = match stroke.arrow.shown {
         Shown::Message(_) => "->>",
         Shown::Answer(_) => "-->>",
@@ -109,14 +109,14 @@ fn put_message(to: &mut Page, stroke: &Stroke) {
 }
 
 /// Appends the beginning of a note beside the lane of a thread.
-fn put_over(to: &mut Page, thread: ObjId) {
+fn put_over(to: &mut TextBuffer, thread: ObjId) {
     to.put(b"    Note over ");
     put_id(to, thread);
     to.put(b": ");
 }
 
 /// Appends a note beside a lane; the text of an arrow is at the arrow.
-fn put_note(to: &mut Page, plan: &Plan, note: &Note) {
+fn put_note(to: &mut TextBuffer, plan: &Plan, note: &Note) {
     let Some(thread) = plan.threads.get(note.lane) else {
         return;
     };
@@ -127,7 +127,7 @@ fn put_note(to: &mut Page, plan: &Plan, note: &Note) {
 }
 
 /// Appends a step that did nothing, skipped or refused, at its thread.
-fn put_idle_step(to: &mut Page, row: &Row) {
+fn put_idle_step(to: &mut TextBuffer, row: &Row) {
     let (Some(thread), RowKind::Away | RowKind::Refused) = (row.thread, row.kind) else {
         return;
     };
@@ -138,7 +138,7 @@ fn put_idle_step(to: &mut Page, row: &Row) {
 }
 
 /// Appends the arrows of a row, from an index on. Returns the index of the first one after the row.
-fn put_messages(to: &mut Page, strokes: &[Stroke], first: usize, row: usize) -> usize {
+fn put_messages(to: &mut TextBuffer, strokes: &[Stroke], first: usize, row: usize) -> usize {
     for at in first..strokes.len() {
         match strokes.get(at) {
             Some(stroke) if stroke.row == row => put_message(to, stroke),
@@ -149,7 +149,7 @@ fn put_messages(to: &mut Page, strokes: &[Stroke], first: usize, row: usize) -> 
 }
 
 /// Appends the notes of a row, from an index on. Returns the index of the first one after the row.
-fn put_notes(to: &mut Page, plan: &Plan, first: usize, row: usize) -> usize {
+fn put_notes(to: &mut TextBuffer, plan: &Plan, first: usize, row: usize) -> usize {
     for at in first..plan.notes.len() {
         match plan.notes.get(at) {
             Some(note) if note.row == row => put_note(to, plan, note),
@@ -160,7 +160,7 @@ fn put_notes(to: &mut Page, plan: &Plan, first: usize, row: usize) -> usize {
 }
 
 /// Appends the rows of a page.
-fn put_rows(to: &mut Page, plan: &Plan) {
+fn put_rows(to: &mut TextBuffer, plan: &Plan) {
     let mut stroke = 0;
     let mut note = 0;
     for (at, row) in plan.rows.iter().enumerate() {
@@ -171,10 +171,10 @@ fn put_rows(to: &mut Page, plan: &Plan) {
 }
 
 /// Returns the picture of a scene as a diagram for Mermaid.
-pub fn mermaid_of<N: Names>(alloc: Global, scene: &Scene<'_, N>) -> Result<String, AllocError> {
+pub fn mermaid_of<N: Naming>(alloc: Global, scene: &Scene<'_, N>) -> Result<String, AllocError> {
     let plan = plan_of(alloc, scene)?;
     let mut words = Words::new(alloc)?;
-    let mut page = Page::new(alloc)?;
+    let mut page = TextBuffer::new(alloc)?;
     page.put(b"sequenceDiagram\n");
     for thread in scene.threads {
         put_participant(&mut words, &mut page, scene.names, *thread);

@@ -1,22 +1,22 @@
 //! The names of objects in a picture.
-use mcs_lab_inspect::Page;
+use mcs_lab_inspect::TextBuffer;
 use mcs_text::letter;
 use mcs_types::{ObjId, Queue};
 
 /// Names for objects.
-pub trait Names: Drop {
+pub trait Naming: Drop {
     /// The name of an object, if it has one.
     fn name(&self, object: ObjId) -> Option<&str>;
 }
 
 /// Appends the id of an object, as `t1`.
-pub fn put_id(to: &mut Page, object: ObjId) {
+pub fn put_id(to: &mut TextBuffer, object: ObjId) {
     to.put(&[letter(object.kind)]);
     to.number(object.serial as u64);
 }
 
 /// Appends the name of an object, or its id where it has none.
-pub fn put_name<N: Names>(to: &mut Page, names: &N, object: ObjId) {
+pub fn put_name<N: Naming>(to: &mut TextBuffer, names: &N, object: ObjId) {
     match names.name(object) {
         Some(name) => to.put(name.as_bytes()),
         None => put_id(to, object),
@@ -24,7 +24,7 @@ pub fn put_name<N: Names>(to: &mut Page, names: &N, object: ObjId) {
 }
 
 /// Appends the id of an object, with its name where it has one, as `client (t1)`.
-pub fn put_full_name<N: Names>(to: &mut Page, names: &N, object: ObjId) {
+pub fn put_full_name<N: Naming>(to: &mut TextBuffer, names: &N, object: ObjId) {
     let Some(name) = names.name(object) else {
         return put_id(to, object);
     };
@@ -34,8 +34,8 @@ pub fn put_full_name<N: Names>(to: &mut Page, names: &N, object: ObjId) {
     to.put(b")");
 }
 
-/// Appends the name of a queue, as `fs.recv`.
-pub fn put_queue<N: Names>(to: &mut Page, names: &N, queue: Queue) {
+/// Appends the name of a queue, such as `fs.recv`.
+pub fn put_queue<N: Naming>(to: &mut TextBuffer, names: &N, queue: Queue) {
     let (object, end) = match queue {
         Queue::Senders(object) => (object, ".send"),
         Queue::Receivers(object) => (object, ".recv"),

@@ -1,26 +1,26 @@
 //! The notes beside lanes and arrows.
-use crate::naming::{Names, put_name, put_queue};
+use crate::naming::{Naming, put_name, put_queue};
 use crate::numbers::{is_large, put_number};
 use mcs_book::{Book, Line};
 use mcs_lab_diagram::{Arrow, Look, Point, Shown, Strokes};
-use mcs_lab_inspect::Page;
+use mcs_lab_inspect::TextBuffer;
 use mcs_types::{Ending, Entry, Kind, Message, ObjId, Rec, SendMode, Status};
 use std::alloc::Global;
 
 /// Appends a text and a number.
-fn put_numbered(to: &mut Page, text: &str, number: u64) {
+fn put_numbered(to: &mut TextBuffer, text: &str, number: u64) {
     to.put(text.as_bytes());
     to.number(number);
 }
 
 /// Appends a text and a name.
-fn put_named<N: Names>(to: &mut Page, names: &N, text: &str, object: ObjId) {
+fn put_named<N: Naming>(to: &mut TextBuffer, names: &N, text: &str, object: ObjId) {
     to.put(text.as_bytes());
     put_name(to, names, object);
 }
 
 /// Appends a name and a text.
-fn put_said<N: Names>(to: &mut Page, names: &N, object: ObjId, text: &str) {
+fn put_said<N: Naming>(to: &mut TextBuffer, names: &N, object: ObjId, text: &str) {
     put_name(to, names, object);
     to.put(text.as_bytes());
 }
@@ -29,7 +29,7 @@ fn put_said<N: Names>(to: &mut Page, names: &N, object: ObjId, text: &str) {
 pub const FEW: usize = 4;
 
 /// Appends at most `most` words of a message.
-fn put_words(alloc: Global, to: &mut Page, words: &[u64], most: usize) {
+fn put_words(alloc: Global, to: &mut TextBuffer, words: &[u64], most: usize) {
     let mut left = most;
     for (before, word) in words.iter().enumerate() {
         if before > 0 {
@@ -45,7 +45,7 @@ fn put_words(alloc: Global, to: &mut Page, words: &[u64], most: usize) {
 }
 
 /// Appends a message with at most `most` of its words: `10(4096 1)`.
-fn put_message(alloc: Global, to: &mut Page, message: &Message, most: usize) {
+fn put_message(alloc: Global, to: &mut TextBuffer, message: &Message, most: usize) {
     put_number(alloc, to, message.label());
     to.put(b"(");
     put_words(alloc, to, message.words(), most);
@@ -53,7 +53,7 @@ fn put_message(alloc: Global, to: &mut Page, message: &Message, most: usize) {
 }
 
 /// Appends a text, and the value of a word or a badge.
-fn put_valued(alloc: Global, to: &mut Page, text: &str, value: u64) {
+fn put_valued(alloc: Global, to: &mut TextBuffer, text: &str, value: u64) {
     to.put(text.as_bytes());
     put_number(alloc, to, value);
 }
@@ -69,7 +69,7 @@ fn mode_word(mode: SendMode) -> &'static str {
 }
 
 /// Appends the message of a Sent record, with at most `most` words.
-fn put_sent<N: Names>(alloc: Global, to: &mut Page, names: &N, fact: &Rec, most: usize) {
+fn put_sent<N: Naming>(alloc: Global, to: &mut TextBuffer, names: &N, fact: &Rec, most: usize) {
     if let Rec::Sent {
         endpoint,
         mode,
@@ -87,7 +87,13 @@ fn put_sent<N: Names>(alloc: Global, to: &mut Page, names: &N, fact: &Rec, most:
 }
 
 /// Appends the message that a line sent, with at most `most` words.
-fn put_sent_by<N: Names>(alloc: Global, to: &mut Page, names: &N, line: &Line<'_>, most: usize) {
+fn put_sent_by<N: Naming>(
+    alloc: Global,
+    to: &mut TextBuffer,
+    names: &N,
+    line: &Line<'_>,
+    most: usize,
+) {
     for i in 0..line.record_count() {
         let Some(kept) = line.kept_record(i) else {
             continue;
@@ -102,15 +108,15 @@ fn put_sent_by<N: Names>(alloc: Global, to: &mut Page, names: &N, line: &Line<'_
 }
 
 /// Appends the name of a message.
-fn put_message_name(to: &mut Page, number: u32) {
+fn put_message_name(to: &mut TextBuffer, number: u32) {
     put_numbered(to, "m", number as u64);
 }
 
 /// Appends the text for the record of an arrow: the label, words and badge of a message, the label
 /// and words of a reply, or a notification word. A message shows at most `most` words.
-pub fn put_label<N: Names>(
+pub fn put_label<N: Naming>(
     alloc: Global,
-    to: &mut Page,
+    to: &mut TextBuffer,
     names: &N,
     book: &Book,
     arrow: &Arrow,
@@ -137,7 +143,7 @@ pub fn put_label<N: Names>(
 }
 
 /// Appends what an entry sent that reached no thread.
-pub fn put_lost(alloc: Global, to: &mut Page, entry: &Entry) {
+pub fn put_lost(alloc: Global, to: &mut TextBuffer, entry: &Entry) {
     to.put(b"to nobody: ");
     match entry {
         Entry::Send { message, .. }
@@ -155,7 +161,7 @@ pub fn is_ready(status: Option<Status>) -> bool {
 }
 
 /// Appends the status of a thread.
-pub fn put_look<N: Names>(to: &mut Page, names: &N, look: Look) {
+pub fn put_look<N: Naming>(to: &mut TextBuffer, names: &N, look: Look) {
     match (look.status, look.context) {
         (Some(Status::Running | Status::Restart), Some(context)) => {
             put_named(to, names, "on ", context)
@@ -172,7 +178,7 @@ pub fn put_look<N: Names>(to: &mut Page, names: &N, look: Look) {
 }
 
 /// Appends the status of a thread, and the context that it holds while it does not run.
-pub fn put_whole_look<N: Names>(to: &mut Page, names: &N, look: Look) {
+pub fn put_whole_look<N: Naming>(to: &mut TextBuffer, names: &N, look: Look) {
     put_look(to, names, look);
     if is_ready(look.status) {
         return;
@@ -208,7 +214,7 @@ pub fn marked(strokes: &Strokes, here: Point, fact: &Rec) -> Option<ObjId> {
 }
 
 /// Appends words and a name, or that there is none.
-fn put_end<N: Names>(to: &mut Page, names: &N, words: &str, object: Option<ObjId>) {
+fn put_end<N: Naming>(to: &mut TextBuffer, names: &N, words: &str, object: Option<ObjId>) {
     match object {
         Some(object) => put_named(to, names, words, object),
         None => {
@@ -219,7 +225,7 @@ fn put_end<N: Names>(to: &mut Page, names: &N, words: &str, object: Option<ObjId
 }
 
 /// Appends the mark of a raised notification, or of a context without a holder.
-fn put_word_mark<N: Names>(alloc: Global, to: &mut Page, names: &N, fact: &Rec) {
+fn put_word_mark<N: Naming>(alloc: Global, to: &mut TextBuffer, names: &N, fact: &Rec) {
     match fact {
         Rec::Raised {
             notification,
@@ -250,13 +256,13 @@ fn void_word(ending: Ending) -> &'static str {
 }
 
 /// Appends what ended, after a cross.
-fn put_ended<N: Names>(to: &mut Page, names: &N, object: ObjId, text: &str) {
+fn put_ended<N: Naming>(to: &mut TextBuffer, names: &N, object: ObjId, text: &str) {
     to.put("✗ ".as_bytes());
     put_said(to, names, object, text);
 }
 
 /// Appends the mark of a record.
-pub fn put_mark<N: Names>(alloc: Global, to: &mut Page, names: &N, fact: &Rec) {
+pub fn put_mark<N: Naming>(alloc: Global, to: &mut TextBuffer, names: &N, fact: &Rec) {
     match fact {
         Rec::Dropped { message } => {
             put_numbered(to, "✗ m", *message as u64);

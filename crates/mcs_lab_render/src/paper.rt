@@ -1,6 +1,6 @@
 //! The marks of an SVG page.
 use crate::texts::put_escaped;
-use mcs_lab_inspect::Page;
+use mcs_lab_inspect::TextBuffer;
 
 /// A box on the page.
 #[derive(Clone, Copy)]
@@ -12,14 +12,14 @@ pub struct Area {
 }
 
 /// Appends an attribute with a number as value, from its name to the closing quote.
-pub fn put_attribute(to: &mut Page, name: &[u8], value: u64) {
+pub fn put_attribute(to: &mut TextBuffer, name: &[u8], value: u64) {
     to.put(name);
     to.number(value);
     to.put(b"\"");
 }
 
 /// Appends a command of a path with its target.
-pub fn put_point(to: &mut Page, command: &[u8], x: u64, y: u64) {
+pub fn put_point(to: &mut TextBuffer, command: &[u8], x: u64, y: u64) {
     to.put(command);
     to.number(x);
     to.put(b",");
@@ -27,14 +27,14 @@ pub fn put_point(to: &mut Page, command: &[u8], x: u64, y: u64) {
 }
 
 /// Appends a command of a path with a single number.
-pub fn put_far(to: &mut Page, command: &[u8], at: u64) {
+pub fn put_far(to: &mut TextBuffer, command: &[u8], at: u64) {
     to.put(command);
     to.number(at);
 }
 
 /// Appends a text at a position; its class says whether the baseline begins there, is centred or
 /// ends.
-pub fn put_text(to: &mut Page, class: &str, x: u64, y: u64, text: &str) {
+pub fn put_text(to: &mut TextBuffer, class: &str, x: u64, y: u64, text: &str) {
     to.put(b"<text class=\"");
     to.put(class.as_bytes());
     put_attribute(to, b"\" x=\"", x);
@@ -45,7 +45,7 @@ pub fn put_text(to: &mut Page, class: &str, x: u64, y: u64, text: &str) {
 }
 
 /// Appends a box up to the end of its attributes.
-fn put_box(to: &mut Page, class: &str, area: Area) {
+fn put_box(to: &mut TextBuffer, class: &str, area: Area) {
     to.put(b"<rect class=\"");
     to.put(class.as_bytes());
     put_attribute(to, b"\" x=\"", area.x);
@@ -55,7 +55,7 @@ fn put_box(to: &mut Page, class: &str, area: Area) {
 }
 
 /// Appends a box with a tooltip.
-pub fn put_area(to: &mut Page, class: &str, area: Area, title: &str) {
+pub fn put_area(to: &mut TextBuffer, class: &str, area: Area, title: &str) {
     put_box(to, class, area);
     if title.is_empty() {
         return to.put(b"/>\n");
@@ -65,13 +65,13 @@ pub fn put_area(to: &mut Page, class: &str, area: Area, title: &str) {
     to.put(b"</title></rect>\n");
 }
 
-/// The length of the line of a lost send, and how much farther from its lane its text is.
+/// The length of the line of a lost send. Its text is this much farther from its lane.
 const LOST: u64 = 16;
 
 pub const LOST_TEXT: u64 = 18;
 
 /// Appends a cross.
-fn put_cross(to: &mut Page, x: u64, y: u64) {
+fn put_cross(to: &mut TextBuffer, x: u64, y: u64) {
     let (left, right) = (x.saturating_sub(3), x.saturating_add(3));
     let (up, down) = (y.saturating_sub(3), y.saturating_add(3));
     put_point(to, b"M", left, up);
@@ -82,7 +82,7 @@ fn put_cross(to: &mut Page, x: u64, y: u64) {
 
 /// Appends the line of a lost send, of this line of the book, from a position to the right; it ends
 /// in a cross.
-pub fn put_lost_line(to: &mut Page, number: Option<usize>, x: u64, y: u64) {
+pub fn put_lost_line(to: &mut TextBuffer, number: Option<usize>, x: u64, y: u64) {
     let end = x.saturating_add(LOST);
     to.put(b"<path class=\"arrow lost\"");
     if let Some(number) = number {
@@ -103,7 +103,14 @@ pub enum Way {
 }
 
 /// Appends a short line, of this line of the book, for an arrow whose end to the left has no lane.
-pub fn put_short_line(to: &mut Page, class: &str, number: Option<usize>, x: u64, y: u64, way: Way) {
+pub fn put_short_line(
+    to: &mut TextBuffer,
+    class: &str,
+    number: Option<usize>,
+    x: u64,
+    y: u64,
+    way: Way,
+) {
     let end = x.saturating_add(LOST);
     let (from, far) = match way {
         Way::Off => (x, end),

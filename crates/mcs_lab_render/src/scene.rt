@@ -1,5 +1,5 @@
 //! The drawing, and which part of it is shown.
-use crate::naming::Names;
+use crate::naming::Naming;
 use crate::steps::Steps;
 use mcs_lab_diagram::{Drawing, Window};
 use mcs_plan_source::STARTER;
@@ -34,7 +34,7 @@ pub fn lane_in(threads: &[ObjId], thread: ObjId) -> Option<usize> {
 
 /// Returns whether a thread has nothing left to do after a line: it is the thread `starter`, by
 /// which plans start others, and is inactive.
-fn is_done<N: Names>(drawing: &Drawing, names: &N, thread: ObjId, line: usize) -> bool {
+fn is_done<N: Naming>(drawing: &Drawing, names: &N, thread: ObjId, line: usize) -> bool {
     let Some(name) = names.name(thread) else {
         return false;
     };
@@ -44,7 +44,7 @@ fn is_done<N: Names>(drawing: &Drawing, names: &N, thread: ObjId, line: usize) -
 
 /// Returns the threads that have lanes by default: all that have something left to do after this
 /// line.
-fn busy_threads<N: Names>(
+fn busy_threads<N: Naming>(
     alloc: Global,
     drawing: &Drawing,
     names: &N,
@@ -83,9 +83,9 @@ fn asked_threads(
     Ok(threads)
 }
 
-/// Returns the threads that have lanes, in order: those that are wanted. By default all have one,
-/// except `starter`, by which plans start others, if it is inactive after the last shown line.
-pub fn threads_shown<N: Names>(
+/// Returns the threads that have lanes, in order: those that were asked for. By default all have
+/// one, except `starter`, by which plans start others, if it is inactive after the last shown line.
+pub fn threads_shown<N: Naming>(
     alloc: Global,
     drawing: &Drawing,
     names: &N,

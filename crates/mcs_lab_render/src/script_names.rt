@@ -1,14 +1,14 @@
 //! The names that a script gives, as a picture asks for them.
-use crate::naming::Names as PaperNames;
-use mcs_lab_check::Names;
+use crate::naming::Naming;
+use mcs_lab_check::Labels;
 use mcs_types::ObjId;
 use std::str;
 
 /// The names that a script gave by its lines `#@`.
 #[derive(Drop)]
-pub struct ScriptNames<'a>(pub &'a Names);
+pub struct ScriptNames<'a>(pub &'a Labels);
 
-impl<'a> PaperNames for ScriptNames<'a> {
+impl<'a> Naming for ScriptNames<'a> {
     fn name(&self, object: ObjId) -> Option<&str> {
         match self.0.of(object) {
             Some(name) => str::from_utf8(name).ok(),

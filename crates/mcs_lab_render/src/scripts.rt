@@ -8,7 +8,7 @@ use crate::svg::svg_of;
 use crate::titles::title_of;
 use mcs_book::Book;
 use mcs_kernel::Boot;
-use mcs_lab_check::{Judge, LabFault, Names, TakesLines, Told, take_lines};
+use mcs_lab_check::{Judge, LabFault, Labels, LineResult, TakesLines, take_lines};
 use mcs_lab_diagram::{DrawFault, Drawing, Window};
 use mcs_sim::Source;
 use mcs_text::{Lines, read_step};
@@ -77,7 +77,7 @@ impl Asked<'_> {
 #[derive(Drop)]
 struct Script {
     judge: Judge,
-    names: Names,
+    names: Labels,
     text: Vec<u8>,
 }
 
@@ -85,7 +85,7 @@ impl TakesLines for Script {
     fn take_line(&mut self, alloc: Global, line: &[u8]) -> Result<(), LabFault> {
         self.text.extend_from_slice(line)?;
         match self.judge.take(alloc, line)? {
-            Told::Nothing => self.names.hear(alloc, self.judge.line(), line),
+            LineResult::Nothing => self.names.hear(alloc, self.judge.line(), line),
             _ => Ok(()),
         }
     }
@@ -250,7 +250,7 @@ pub fn draw_script<R: Read, W: Write>(
 ) -> Result<(), LabFault> {
     let mut script = Script {
         judge: Judge::new(alloc)?,
-        names: Names::new(alloc),
+        names: Labels::new(alloc),
         text: Vec::new(alloc),
     };
     take_lines(alloc, from, &mut script)?;

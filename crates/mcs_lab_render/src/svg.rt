@@ -2,7 +2,7 @@
 use crate::bars::put_bars;
 use crate::layout::plan_of;
 use crate::legend::{Seen, put_end, put_legend, seen_in};
-use crate::naming::{Names, put_full_name};
+use crate::naming::{Naming, put_full_name};
 use crate::paper::{
     Area, LOST_TEXT, STYLE, Way, put_area, put_attribute, put_far, put_lost_line, put_point,
     put_short_line, put_text,
@@ -14,7 +14,7 @@ use crate::plans::{
 use crate::scene::{Scene, place_of};
 use crate::texts::{Words, columns, put_escaped, take_text};
 use mcs_lab_diagram::Shown;
-use mcs_lab_inspect::Page;
+use mcs_lab_inspect::TextBuffer;
 use std::alloc::{AllocError, Global};
 
 /// How far from a lane an arrow begins, how far from it its tip is, and where an arrow to its own
@@ -34,7 +34,7 @@ fn lane_at(plan: &Plan, lane: usize) -> u64 {
 }
 
 /// Appends the head of a lane.
-fn put_head(to: &mut Page, plan: &Plan, lane: usize, head: &str) {
+fn put_head(to: &mut TextBuffer, plan: &Plan, lane: usize, head: &str) {
     let x = lane_at(plan, lane);
     let half = columns(head).max(12).saturating_mul(7) / 2 + 6;
     let area = Area {
@@ -49,7 +49,7 @@ fn put_head(to: &mut Page, plan: &Plan, lane: usize, head: &str) {
 }
 
 /// Appends the priority of the thread of a lane.
-fn put_priority(to: &mut Page, plan: &Plan, lane: usize, x: u64) {
+fn put_priority(to: &mut TextBuffer, plan: &Plan, lane: usize, x: u64) {
     let Some(thread) = plan.threads.get(lane) else {
         return;
     };
@@ -62,7 +62,7 @@ fn put_priority(to: &mut Page, plan: &Plan, lane: usize, x: u64) {
 }
 
 /// Appends the heads of the numbers of lines, and of the lanes.
-fn put_heads(to: &mut Page, plan: &Plan) {
+fn put_heads(to: &mut TextBuffer, plan: &Plan) {
     to.put(b"<g class=\"heads\">\n");
     put_text(to, "number", NUMBERS_AT, 48, "book");
     put_text(to, "number", FILES_AT, 48, "file");
@@ -73,7 +73,7 @@ fn put_heads(to: &mut Page, plan: &Plan) {
 }
 
 /// Appends the line across a row.
-fn put_rule(to: &mut Page, plan: &Plan, row: &Row) {
+fn put_rule(to: &mut TextBuffer, plan: &Plan, row: &Row) {
     put_far(
         to,
         b"<path class=\"rule\" d=\"M8,",
@@ -84,13 +84,13 @@ fn put_rule(to: &mut Page, plan: &Plan, row: &Row) {
 }
 
 /// Appends the beginning of a row of this line of the book.
-fn put_row(to: &mut Page, number: usize) {
+fn put_row(to: &mut TextBuffer, number: usize) {
     put_attribute(to, b"<g class=\"row\" data-line=\"", number as u64);
     to.put(b">");
 }
 
 /// Appends the number of a line that ends at a place.
-fn put_number(to: &mut Page, x: u64, y: u64, number: u64) {
+fn put_number(to: &mut TextBuffer, x: u64, y: u64, number: u64) {
     put_attribute(to, b"<text class=\"number\" x=\"", x);
     put_attribute(to, b" y=\"", y);
     to.put(b">");
@@ -99,14 +99,14 @@ fn put_number(to: &mut Page, x: u64, y: u64, number: u64) {
 }
 
 /// Appends the number of the line of the file with a row's step.
-fn put_file_number(to: &mut Page, row: &Row, first: u64) {
+fn put_file_number(to: &mut TextBuffer, row: &Row, first: u64) {
     if let Some(line) = row.line {
         put_number(to, FILES_AT, first, line);
     }
 }
 
 /// Appends the numbers of a line, its step and its result.
-fn put_step(to: &mut Page, row: &Row, class: &str, first: u64) {
+fn put_step(to: &mut TextBuffer, row: &Row, class: &str, first: u64) {
     put_row(to, row.number);
     put_number(to, NUMBERS_AT, first, row.number as u64);
     put_file_number(to, row, first);
@@ -117,7 +117,7 @@ fn put_step(to: &mut Page, row: &Row, class: &str, first: u64) {
 }
 
 /// Appends the left margin of a row, and the line across it.
-fn put_margin(to: &mut Page, plan: &Plan, row: &Row) {
+fn put_margin(to: &mut TextBuffer, plan: &Plan, row: &Row) {
     put_rule(to, plan, row);
     let first = row.top.saturating_add(TEXT_AT);
     match row.kind {
@@ -138,7 +138,7 @@ fn put_margin(to: &mut Page, plan: &Plan, row: &Row) {
 }
 
 /// Appends the dot of the thread that enters, if it has a lane.
-fn put_dot(to: &mut Page, plan: &Plan, row: &Row) {
+fn put_dot(to: &mut TextBuffer, plan: &Plan, row: &Row) {
     let Some(lane) = row.thread.and_then(|thread| plan.lane_of(thread)) else {
         return;
     };
@@ -175,7 +175,7 @@ fn aside(x: u64, is_right: bool, far: u64) -> u64 {
 
 /// Appends the line of an arrow to its own lane. One that waited runs down beside the lane before
 /// it turns back.
-fn put_turn(to: &mut Page, plan: &Plan, stroke: &Stroke, lane: u64) {
+fn put_turn(to: &mut TextBuffer, plan: &Plan, stroke: &Stroke, lane: u64) {
     let top = slot_top(plan, stroke.row, stroke.slot);
     let x = lane.saturating_add(TIP);
     match plan.rows.get(stroke.from_row) {
@@ -193,7 +193,7 @@ fn put_turn(to: &mut Page, plan: &Plan, stroke: &Stroke, lane: u64) {
 
 /// Appends the line of an arrow from one lane to another. One that waited runs down beside its lane
 /// to the slot in which it crosses over.
-fn put_way(to: &mut Page, plan: &Plan, stroke: &Stroke, a: u64, b: u64) {
+fn put_way(to: &mut TextBuffer, plan: &Plan, stroke: &Stroke, a: u64, b: u64) {
     let top = slot_top(plan, stroke.row, stroke.slot);
     let y = top.saturating_add(ARROW_AT);
     let is_right = a < b;
@@ -210,7 +210,7 @@ fn put_way(to: &mut Page, plan: &Plan, stroke: &Stroke, a: u64, b: u64) {
 }
 
 /// Appends the line of an arrow.
-fn put_path(to: &mut Page, plan: &Plan, stroke: &Stroke) {
+fn put_path(to: &mut TextBuffer, plan: &Plan, stroke: &Stroke) {
     let (from, end) = (stroke.ends.from, stroke.ends.to);
     let (a, b) = (lane_at(plan, from), lane_at(plan, end));
     if from == end {
@@ -220,7 +220,7 @@ fn put_path(to: &mut Page, plan: &Plan, stroke: &Stroke) {
 }
 
 /// Appends the tooltip of an arrow.
-fn put_hint<N: Names>(to: &mut Page, names: &N, stroke: &Stroke) {
+fn put_hint<N: Naming>(to: &mut TextBuffer, names: &N, stroke: &Stroke) {
     put_full_name(to, names, stroke.arrow.from.thread);
     to.put(b" to ");
     put_full_name(to, names, stroke.arrow.to.thread);
@@ -238,7 +238,13 @@ fn class_of(shown: Shown) -> &'static str {
 }
 
 /// Appends an arrow, with its full text as tooltip.
-fn put_stroke<N: Names>(words: &mut Words, to: &mut Page, names: &N, plan: &Plan, stroke: &Stroke) {
+fn put_stroke<N: Naming>(
+    words: &mut Words,
+    to: &mut TextBuffer,
+    names: &N,
+    plan: &Plan,
+    stroke: &Stroke,
+) {
     to.put(b"<path class=\"arrow ");
     to.put(class_of(stroke.arrow.shown).as_bytes());
     put_attribute(to, b"\" data-line=\"", stroke.arrow.to.row as u64);
@@ -254,7 +260,7 @@ fn put_stroke<N: Names>(words: &mut Words, to: &mut Page, names: &N, plan: &Plan
 }
 
 /// Puts the label of an arrow that stays in its row, above it.
-fn put_label(to: &mut Page, plan: &Plan, stroke: &Stroke) {
+fn put_label(to: &mut TextBuffer, plan: &Plan, stroke: &Stroke) {
     if !stroke.is_straight() {
         return;
     }
@@ -270,7 +276,7 @@ fn put_label(to: &mut Page, plan: &Plan, stroke: &Stroke) {
 }
 
 /// Appends the short line of a note, of this line of the book.
-fn put_short(to: &mut Page, kind: NoteKind, number: Option<usize>, x: u64, y: u64) {
+fn put_short(to: &mut TextBuffer, kind: NoteKind, number: Option<usize>, x: u64, y: u64) {
     match kind {
         NoteKind::Lost => put_lost_line(to, number, x, y),
         NoteKind::Comes(shown) => put_short_line(to, class_of(shown), number, x, y, Way::Back),
@@ -280,7 +286,7 @@ fn put_short(to: &mut Page, kind: NoteKind, number: Option<usize>, x: u64, y: u6
 }
 
 /// Appends a text beside a lane after its short line.
-fn put_with_line(to: &mut Page, plan: &Plan, note: &Note, class: &str) {
+fn put_with_line(to: &mut TextBuffer, plan: &Plan, note: &Note, class: &str) {
     let x = lane_at(plan, note.lane);
     let top = slot_top(plan, note.row, note.slot);
     let number = plan.rows.get(note.row).map(|row| row.number);
@@ -294,7 +300,7 @@ fn put_with_line(to: &mut Page, plan: &Plan, note: &Note, class: &str) {
 }
 
 /// Appends a note beside a lane.
-fn put_note(to: &mut Page, plan: &Plan, note: &Note) {
+fn put_note(to: &mut TextBuffer, plan: &Plan, note: &Note) {
     let y = slot_top(plan, note.row, note.slot).saturating_add(TEXT_AT);
     let x = lane_at(plan, note.lane).saturating_add(CLEAR);
     match note.kind {
@@ -306,7 +312,7 @@ fn put_note(to: &mut Page, plan: &Plan, note: &Note) {
 }
 
 /// Appends the arrows without their labels, and the dots over them.
-fn put_arrows<N: Names>(words: &mut Words, to: &mut Page, names: &N, plan: &Plan) {
+fn put_arrows<N: Naming>(words: &mut Words, to: &mut TextBuffer, names: &N, plan: &Plan) {
     for stroke in plan.strokes.iter() {
         put_stroke(words, to, names, plan, stroke);
     }
@@ -316,7 +322,7 @@ fn put_arrows<N: Names>(words: &mut Words, to: &mut Page, names: &N, plan: &Plan
 }
 
 /// Appends everything on the page above the end of its lanes.
-fn put_all<N: Names>(words: &mut Words, to: &mut Page, scene: &Scene<'_, N>, plan: &Plan) {
+fn put_all<N: Naming>(words: &mut Words, to: &mut TextBuffer, scene: &Scene<'_, N>, plan: &Plan) {
     for row in plan.rows.iter() {
         put_margin(to, plan, row);
     }
@@ -344,7 +350,7 @@ fn lines_in(plan: &Plan) -> usize {
 }
 
 /// Appends the text that screen readers read: the title of the picture, and how much it shows.
-fn put_title(to: &mut Page, plan: &Plan, title: &str) {
+fn put_title(to: &mut TextBuffer, plan: &Plan, title: &str) {
     to.put(b"<title>");
     put_escaped(to, title);
     to.put(b"</title>\n<desc>");
@@ -362,7 +368,7 @@ fn put_title(to: &mut Page, plan: &Plan, title: &str) {
 }
 
 /// Appends the first line of the page, with its size.
-fn put_size(to: &mut Page, width: u64, height: u64) {
+fn put_size(to: &mut TextBuffer, width: u64, height: u64) {
     to.put(b"<svg xmlns=\"http://www.w3.org/2000/svg\" role=\"img\"");
     put_attribute(to, b" width=\"", width);
     put_attribute(to, b" height=\"", height);
@@ -372,9 +378,9 @@ fn put_size(to: &mut Page, width: u64, height: u64) {
 }
 
 /// Appends the lanes and what is below them, and returns the height of the page.
-fn put_body<N: Names>(
+fn put_body<N: Naming>(
     words: &mut Words,
-    to: &mut Page,
+    to: &mut TextBuffer,
     scene: &Scene<'_, N>,
     plan: &Plan,
     seen: &Seen,
@@ -385,14 +391,14 @@ fn put_body<N: Names>(
 }
 
 /// Returns the picture of a scene as SVG with this title.
-pub fn svg_of<N: Names>(
+pub fn svg_of<N: Naming>(
     alloc: Global,
     scene: &Scene<'_, N>,
     title: &str,
 ) -> Result<String, AllocError> {
     let plan = plan_of(alloc, scene)?;
     let mut words = Words::new(alloc)?;
-    let mut page = Page::new(alloc)?;
+    let mut page = TextBuffer::new(alloc)?;
     let seen = seen_in(alloc, scene.drawing, &plan)?;
     let height = put_body(&mut words, &mut page, scene, &plan, &seen);
     let body = take_text(alloc, &mut page)?;

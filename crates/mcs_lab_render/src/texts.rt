@@ -1,5 +1,5 @@
 //! Texts on a page: their width, cutting, and escapes.
-use mcs_lab_inspect::Page;
+use mcs_lab_inspect::TextBuffer;
 use std::alloc::{AllocError, Global};
 use unicode_width::{UnicodeWidthChar, UnicodeWidthStr};
 
@@ -43,14 +43,14 @@ fn form_of(before: [u8; 2], one: u8) -> Option<&'static [u8]> {
 }
 
 /// Appends the bytes of a text between two positions.
-fn put_part(to: &mut Page, text: &[u8], first: usize, end: usize) {
+fn put_part(to: &mut TextBuffer, text: &[u8], first: usize, end: usize) {
     if let Some(part) = text.get(first..end) {
         to.put(part);
     }
 }
 
 /// Appends a text on a page of XML.
-pub fn put_escaped(to: &mut Page, text: &str) {
+pub fn put_escaped(to: &mut TextBuffer, text: &str) {
     let text = text.as_bytes();
     let mut first = 0;
     let mut before = [0, 0];
@@ -66,7 +66,7 @@ pub fn put_escaped(to: &mut Page, text: &str) {
 }
 
 /// Returns the contents of a page as a text, and empties the page.
-pub fn take_text(alloc: Global, page: &mut Page) -> Result<String, AllocError> {
+pub fn take_text(alloc: Global, page: &mut TextBuffer) -> Result<String, AllocError> {
     let mut bytes = Vec::new(alloc);
     if page.write(&mut bytes).is_err() {
         return Err(AllocError);
@@ -81,13 +81,13 @@ pub fn take_text(alloc: Global, page: &mut Page) -> Result<String, AllocError> {
 #[derive(Drop)]
 pub struct Words {
     alloc: Global,
-    pub page: Page,
+    pub page: TextBuffer,
 }
 
 impl Words {
     /// Returns an empty list of words. `AllocError` if an allocation fails.
     pub fn new(alloc: Global) -> Result<Words, AllocError> {
-        let page = Page::new(alloc)?;
+        let page = TextBuffer::new(alloc)?;
         Ok(Words { alloc, page })
     }
 

@@ -1,6 +1,6 @@
 //! The title of a picture, from its script.
 use crate::texts::{cut, take_text};
-use mcs_lab_inspect::Page;
+use mcs_lab_inspect::TextBuffer;
 use mcs_text::Lines;
 use std::alloc::{AllocError, Global};
 use std::str;
@@ -23,7 +23,7 @@ fn comment_of(line: &[u8]) -> Option<&str> {
 
 /// Appends a line of a comment up to the end of its first sentence. Returns true if the sentence
 /// ends there.
-fn put_sentence(to: &mut Page, words: &str) -> bool {
+fn put_sentence(to: &mut TextBuffer, words: &str) -> bool {
     if let Some((sentence, _)) = words.split_once(". ") {
         to.put(sentence.as_bytes());
         return true;
@@ -34,7 +34,7 @@ fn put_sentence(to: &mut Page, words: &str) -> bool {
 
 /// Appends the first sentence of the first comment, without its full stop; nothing if there is no
 /// comment.
-fn put_first_sentence(to: &mut Page, text: &[u8]) {
+fn put_first_sentence(to: &mut TextBuffer, text: &[u8]) {
     let mut has_begun = false;
     let mut lines = Lines::new(text);
     for _ in 0..=text.len() {
@@ -82,7 +82,7 @@ fn kind_of(text: &[u8]) -> &'static str {
 /// Returns the title of a script: the first sentence of its first comment, or what kind of file it
 /// is.
 pub fn title_of(alloc: Global, text: &[u8]) -> Result<String, AllocError> {
-    let mut page = Page::new(alloc)?;
+    let mut page = TextBuffer::new(alloc)?;
     put_first_sentence(&mut page, text);
     let said = take_text(alloc, &mut page)?;
     let title = if said.is_empty() {

@@ -3,7 +3,7 @@ use Rattle.std.specs.Prelude.{ℕ, ◌≡◌, ◌≤◌, ◌<◌, ◌+◌, ◌-�
 use Rattle.mcs_packing.specs.declared.addresses.PackedAddress.{PackedAddress}
 use Rattle.mcs_packing.specs.declared.addresses.TheConstants.{FIRST_FAR}
 use Rattle.mcs_packing.specs.declared.arena.Arena.{Arena}
-use Rattle.mcs_packing.specs.Packing.{GrowsBy, word_at}
+use Rattle.mcs_packing.specs.Packing.{GrowsBy, MOST_FAR, word_at}
 
 -- the address: the number itself, or a word
 abbrev pub address_of : PackedAddress → List ℕ → ℕ
@@ -16,7 +16,7 @@ AddressFits a ws = a.0 < FIRST_FAR + length ws
 -- there is room for this many words
 pub record HasWordRoom (a : Arena) (n : ℕ) : Type 0 where
   pub words : vec_len a.words + n ≤ vec_capacity a.words
-  pub named : vec_len a.words + n ≤ 3 * 2 ^ 30
+  pub named : vec_len a.words + n ≤ MOST_FAR
 
 -- an arena after at most this many words more
 pub record GrewWords (n : ℕ) (a b : Arena) : Type 0 where

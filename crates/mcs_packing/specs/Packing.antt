@@ -1,5 +1,5 @@
 -- What a packed record stands for, over an arena of words and the wide records.
-use Rattle.std.specs.Prelude.{ℕ, vec_len, vec_capacity, ◌*◌, ◌≡◌, ◌<◌, ◌≤◌, ◌+◌, ◌^◌, List, [], ◌∷◌, ◌++◌, length, take, drop, slice_index_or, Option, Some, None, IfSome, IfNone}
+use Rattle.std.specs.Prelude.{ℕ, vec_len, vec_capacity, ◌-◌, ◌*◌, ◌≡◌, ◌<◌, ◌≤◌, ◌+◌, ◌^◌, List, [], ◌∷◌, ◌++◌, length, take, drop, slice_index_or, Option, Some, None, IfSome, IfNone}
 use Rattle.mcs_types.specs.Views.{Content}
 use Rattle.mcs_types.specs.declared.id.ObjId.{ObjId}
 use Rattle.mcs_types.specs.declared.id.Kind.{Kind}
@@ -10,11 +10,16 @@ use Rattle.mcs_types.specs.declared.record.Queue.{Queue}
 use Rattle.mcs_types.specs.declared.record.Queue.TheVariants.{Senders as in_senders, Receivers as in_receivers, Waiters as in_waiters}
 use Rattle.mcs_types.specs.declared.record.Rec.{Rec}
 use Rattle.mcs_types.specs.declared.record.Rec.TheVariants as rec
+use Rattle.mcs_packing.specs.declared.addresses.TheConstants.{FIRST_FAR}
 use Rattle.mcs_packing.specs.declared.arena.Arena.{Arena}
 use Rattle.mcs_packing.specs.declared.packed.Side.{Side}
 use Rattle.mcs_packing.specs.declared.packed.Side.TheVariants.{Senders, Receivers, Waiters}
 use Rattle.mcs_packing.specs.declared.packed.Packed.{Packed}
 use Rattle.mcs_packing.specs.declared.packed.Packed.TheVariants.{Made, MadeOn, Closed, Emptied, Filled, FilledBadged, FilledGuarded, Prio, Turns, Joins, JoinsWith, Parts, Sent, Took, Dropped, Owes, OwesWith, Paid, Void, Held, Unheld, Raised, RaisedAt, Heard, Tied, Untied, Homed, Unhomed, Wide}
+
+-- the words whose positions fit a packed address
+abbrev pub MOST_FAR : ℕ
+MOST_FAR = 2 ^ 32 - FIRST_FAR
 
 -- an object of a kind
 abbrev pub object : Kind → ℕ → ObjId
@@ -204,14 +209,14 @@ AllFit (p ∷ ps) ws rs = Fits p ws rs × AllFit ps ws rs
 -- and an answer fewer
 pub record HasRoom (a : Arena) (n : ℕ) : Type 0 where
   pub words : vec_len a.words + (6 * n + (a.spare + 248)) ≤ vec_capacity a.words
-  pub named : vec_len a.words + (6 * n + (a.spare + 248)) ≤ 3 * 2 ^ 30
+  pub named : vec_len a.words + (6 * n + (a.spare + 248)) ≤ MOST_FAR
   pub wide : vec_len a.wide + n ≤ vec_capacity a.wide
   pub named_wide : vec_len a.wide + n ≤ 2 ^ 32
 
 -- there is room for this many entries and answers, each with a message of any length
 pub record HasMessageRoom (a : Arena) (n : ℕ) : Type 0 where
   pub words : vec_len a.words + 124 * n ≤ vec_capacity a.words
-  pub named : vec_len a.words + 124 * n ≤ 3 * 2 ^ 30
+  pub named : vec_len a.words + 124 * n ≤ MOST_FAR
 
 -- an arena after one record more
 pub record Grew (a b : Arena) : Type 0 where

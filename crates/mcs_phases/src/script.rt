@@ -401,7 +401,8 @@ impl<T: Item> Script<T> {
         line: &[u8],
     ) -> Result<(), ScriptFault>
         ensures reads { Reads (λ u. self.new) result
-            (spelled (record { cores = asked; item = T.item }) self.old line.now (words_of line.now)) }
+            (spelled (record { cores = asked; item = T.item }) self.old line.now
+            (words_of line.now)) }
         ensures unchanged { OnErr result (self.new ≡ self.old) }
     {
         let mut words = Words::new(line);

@@ -37,11 +37,11 @@ no_dot (b ∷ bs) lacks =
     go false e = ap (dot_if bs) e
 
 -- the last is at a place
-last_dot : (s : List ℕ) (i : ℕ) (behind : List ℕ) → drop i s ≡ 46 ∷ behind → ((k : ℕ) → k < length behind → get_or behind k 0 ≢ 46)
-    → cut_at_dot s ≡ Some (take i s, behind)
-last_dot [] i behind there lacks = absurd (omega (arith, ap length there, length-drop {A = ℕ} i []))
-last_dot (b ∷ bs) zero behind there lacks = ap cut_at_dot there ∙ ap (dot_or 46 behind) (no_dot behind lacks)
-last_dot (b ∷ bs) (suc i) behind there lacks = ap (dot_or b bs) (last_dot bs i behind there lacks)
+last_dot : (s : List ℕ) (i : ℕ) (after : List ℕ) → drop i s ≡ 46 ∷ after → ((k : ℕ) → k < length after → get_or after k 0 ≢ 46)
+    → cut_at_dot s ≡ Some (take i s, after)
+last_dot [] i after there lacks = absurd (omega (arith, ap length there, length-drop {A = ℕ} i []))
+last_dot (b ∷ bs) zero after there lacks = ap cut_at_dot there ∙ ap (dot_or 46 after) (no_dot after lacks)
+last_dot (b ∷ bs) (suc i) after there lacks = ap (dot_or b bs) (last_dot bs i after there lacks)
 
 -- what the library finds is that
 pub cut_is : (s : List ℕ) (r : Option (Bor (List ℕ) × Bor (List ℕ)))

@@ -22,26 +22,26 @@ none_here b (c ∷ cs) lacks = go (b == 58) (c == 32) refl refl
     go true false e f = refl
     go false q e f = refl
 
-abbrev behind_byte : ℕ → Option (List ℕ × List ℕ) → Option (List ℕ × List ℕ)
-behind_byte b o = option_map (λ p. (b ∷ p.0, p.1)) o
+abbrev after_byte : ℕ → Option (List ℕ × List ℕ) → Option (List ℕ × List ℕ)
+after_byte b o = option_map (λ p. (b ∷ p.0, p.1)) o
 
-next_byte : (b : ℕ) (bs : List ℕ) → b == 58 && begins_with_space bs ≡ false → cut_at_colon (b ∷ bs) ≡ behind_byte b (cut_at_colon bs)
-next_byte b bs none = ap (λ t. cond t (Some ([], drop 1 bs)) (behind_byte b (cut_at_colon bs))) none
+next_byte : (b : ℕ) (bs : List ℕ) → b == 58 && begins_with_space bs ≡ false → cut_at_colon (b ∷ bs) ≡ after_byte b (cut_at_colon bs)
+next_byte b bs none = ap (λ t. cond t (Some ([], drop 1 bs)) (after_byte b (cut_at_colon bs))) none
 
 -- one is at a place, and none before it
-found : (s : List ℕ) (i : ℕ) (behind : List ℕ) → ((k : ℕ) → k < i → (rest : List ℕ) → drop k s ≢ 58 ∷ 32 ∷ rest) → drop i s ≡ 58 ∷ 32 ∷ behind
-    → cut_at_colon s ≡ Some (take i s, behind)
-found [] i behind lacks there = absurd (omega (arith, ap length there, length-drop {A = ℕ} i []))
-found (b ∷ bs) zero behind lacks there = ap cut_at_colon there
-found (b ∷ bs) (suc i) behind lacks there =
+found : (s : List ℕ) (i : ℕ) (after : List ℕ) → ((k : ℕ) → k < i → (rest : List ℕ) → drop k s ≢ 58 ∷ 32 ∷ rest) → drop i s ≡ 58 ∷ 32 ∷ after
+    → cut_at_colon s ≡ Some (take i s, after)
+found [] i after lacks there = absurd (omega (arith, ap length there, length-drop {A = ℕ} i []))
+found (b ∷ bs) zero after lacks there = ap cut_at_colon there
+found (b ∷ bs) (suc i) after lacks there =
     next_byte b bs (none_here b bs (lacks 0 (omega arith)))
-    ∙ ap (behind_byte b) (found bs i behind (λ k l rest. lacks (suc k) (omega arith) rest) there)
+    ∙ ap (after_byte b) (found bs i after (λ k l rest. lacks (suc k) (omega arith) rest) there)
 
 nowhere : (s : List ℕ) → ((k : ℕ) → k ≤ length s → (rest : List ℕ) → drop k s ≢ 58 ∷ 32 ∷ rest) → cut_at_colon s ≡ None
 nowhere [] lacks = refl
 nowhere (b ∷ bs) lacks =
     next_byte b bs (none_here b bs (lacks 0 (omega arith)))
-    ∙ ap (behind_byte b) (nowhere bs (λ k l rest. lacks (suc k) (omega arith) rest))
+    ∙ ap (after_byte b) (nowhere bs (λ k l rest. lacks (suc k) (omega arith) rest))
 
 -- what the library finds is that
 pub cut_is : (s : List ℕ) (r : Option (Bor (List ℕ) × Bor (List ℕ)))

@@ -7,15 +7,15 @@ use Rattle.std.specs.Str.{IsUtf8, is_utf8}
 use Rattle.std.specs.Str.Lossy.{utf8_valid_len}
 use Rattle.std.specs.Str.Lines.{lines}
 use Rattle.mcs_plan_source.specs.declared.fault.PlanFault.{PlanFault}
-use Rattle.mcs_plan_source.specs.declared.fault.Why.{Why}
+use Rattle.mcs_plan_source.specs.declared.fault.PlanError.{PlanError}
 use Rattle.mcs_plan_source.specs.Naming.{texts}
 use Rattle.mcs_plan_source.specs.Refusals.{Read, Refuses, no_text}
 use Rattle.mcs_plan_source.specs.Saying.{Said, said, nothing_said}
-use Rattle.mcs_plan_layout.specs.declared.laid.Laid.{Laid}
+use Rattle.mcs_plan_layout.specs.declared.laid.PlanLayout.{PlanLayout}
 use Rattle.mcs_plan_layout.specs.Fitting.{boot_fits}
 use Rattle.mcs_plan_layout.specs.Laid.{LaidPlan, IsLaid, laid_said, laid_of}
 use Rattle.mcs_plan_compile.specs.declared.compiling.Entries.{Entries}
-use Rattle.mcs_plan_compile.specs.Opening.{behind_said, are_users}
+use Rattle.mcs_plan_compile.specs.Opening.{after_said, are_users}
 use Rattle.mcs_plan_layout.specs.Starting.{IsStarted, RefusesStarter}
 use Rattle.mcs_plan_compile.specs.declared.script.Script.{Script}
 use Rattle.mcs_plan_compile.specs.Reading.{ReadAt, RefusesAt, at_line, and_then, line_said, lines_said, plan_said}
@@ -46,8 +46,8 @@ module _ (ls : List (Bor (List ℕ))) (i : ℕ) (d : Bor (List ℕ)) (within : i
   -- or it is refused
   pub line_refused : (s : Said) (all : ReadAt Said) (fault : PlanFault) → RefusesAt (at_line (i + 1) (line_said (i + 1) (get_or ls i d).now s)) fault
       → all ≡ lines_said i (drop i (texts ls)) s → RefusesAt all fault
-  line_refused s all fault refuses so_far e told =
-      one_line s all so_far ∙ ap (λ (r : ReadAt Said). and_then r (lines_said (i + 1) (drop (i + 1) (texts ls)))) (refuses e told)
+  line_refused s all fault refuses so_far e error =
+      one_line s all so_far ∙ ap (λ (r : ReadAt Said). and_then r (lines_said (i + 1) (drop (i + 1) (texts ls)))) (refuses e error)
 
 pub all_said : (ls : List (Bor (List ℕ))) (i : ℕ) (s : Said) (all : ReadAt Said) → length ls ≤ i → all ≡ lines_said i (drop i (texts ls)) s → all ≡ Ok s
 all_said ls i s all past so_far =
@@ -55,58 +55,58 @@ all_said ls i s all past so_far =
     so_far ∙ ap (λ ms. lines_said i ms s) (drop_of_length-le (texts ls) over)
 
 -- what a script has, from its parts
-pub has_plan : (found : List (List ℕ)) (plan : Said) (script : Script) (laid : Laid) → plan_said found ≡ Ok plan → IsStarted plan (said laid.plan) → IsLaid laid
+pub has_plan : (found : List (List ℕ)) (plan : Said) (script : Script) (laid : PlanLayout) → plan_said found ≡ Ok plan → IsStarted plan (said laid.plan) → IsLaid laid
     → script.laid ≡ laid → HasStepsOf found script → HasPlanOfLines found script
 has_plan found plan script laid says started is same steps =
     record {
       plan = plan;
       says = says;
-      started = subst (λ (l : Laid). IsStarted plan (said l.plan)) (sym same) started;
-      laid = subst (λ (l : Laid). IsLaid l) (sym same) is;
+      started = subst (λ (l : PlanLayout). IsStarted plan (said l.plan)) (sym same) started;
+      laid = subst (λ (l : PlanLayout). IsLaid l) (sym same) is;
       steps = steps;
     }
 
 pub has_plan_of : (bytes : List ℕ) (found : List (List ℕ)) (script : Script) → lines_in bytes ≡ Ok found → HasPlanOfLines found script → HasPlanOf bytes script
 has_plan_of bytes found script are says = record { found = found; are = are; says = says }
 
-pub has_steps : (found : List (List ℕ)) (script : Script) (laid : Laid) (taken : Entries) → script.laid ≡ laid → behind_said (laid_said laid) found ≡ Ok taken
+pub has_steps : (found : List (List ℕ)) (script : Script) (laid : PlanLayout) (taken : Entries) → script.laid ≡ laid → after_said (laid_said laid) found ≡ Ok taken
     → script.is_users ≡ are_users taken → HasStepsOf found script
 has_steps found script laid taken same is users =
-    record { entries = taken; taken = subst (λ (l : Laid). behind_said (laid_said l) found ≡ Ok taken) (sym same) is; users = users }
+    record { entries = taken; taken = subst (λ (l : PlanLayout). after_said (laid_said l) found ≡ Ok taken) (sym same) is; users = users }
 
--- what is told, from where it comes
+-- a reported fault, by the stage of reading that it comes from
 pub no_starter : (found : List (List ℕ)) (plan : Said) (fault : PlanFault) → plan_said found ≡ Ok plan → RefusesStarter plan fault → TellsLines found fault
-no_starter found plan fault says told = inr (record { plan = plan; says = says; told = inl told })
+no_starter found plan fault says error = inr (record { plan = plan; says = says; error = inl error })
 
-pub refused_behind : (found : List (List ℕ)) (plan : Said) (laid : Laid) (fault : PlanFault) → plan_said found ≡ Ok plan → IsStarted plan (said laid.plan) → IsLaid laid
+pub refused_after : (found : List (List ℕ)) (plan : Said) (laid : PlanLayout) (fault : PlanFault) → plan_said found ≡ Ok plan → IsStarted plan (said laid.plan) → IsLaid laid
     → RefusesLaid (laid_said laid) found fault → TellsLines found fault
-refused_behind found plan laid fault says started is told =
+refused_after found plan laid fault says started is error =
     let same : laid_said laid ≡ laid_of (said laid.plan) = ap (λ ts. record { plan = said laid.plan; tables = ts }) is.tables in
     inr (record {
       plan = plan;
       says = says;
-      told = inr (record { new = said laid.plan; started = started; told = subst (λ l. RefusesLaid l found fault) same told });
+      error = inr (record { new = said laid.plan; started = started; error = subst (λ l. RefusesLaid l found fault) same error });
     })
 
 pub refused_lines : (bytes : List ℕ) (found : List (List ℕ)) (fault : PlanFault) → lines_in bytes ≡ Ok found → TellsLines found fault → TellsPlan bytes fault
-refused_lines bytes found fault are told = inr (record { found = found; are = are; told = told })
+refused_lines bytes found fault are error = inr (record { found = found; are = are; error = error })
 
-pub no_boot : (laid : LaidPlan) (ls : List (Bor (List ℕ))) (taken : Entries) (fault : PlanFault) → behind_said laid (texts ls) ≡ Ok taken → fault.line ≡ length ls
+pub no_boot : (laid : LaidPlan) (ls : List (Bor (List ℕ))) (taken : Entries) (fault : PlanFault) → after_said laid (texts ls) ≡ Ok taken → fault.line ≡ length ls
     → Refuses (boot_fits laid.plan) fault.why → RefusesLaid laid (texts ls) fault
-no_boot laid ls taken fault is line told =
-    inr (record { entries = taken; taken = is; line = line ∙ sym (length-map ls (λ (m : Bor (List ℕ)). m.now)); told = told })
+no_boot laid ls taken fault is line error =
+    inr (record { entries = taken; taken = is; line = line ∙ sym (length-map ls (λ (m : Bor (List ℕ)). m.now)); error = error })
 
 -- what is reported of the boot, where that is refused
-pub boot_refused : (r : Result Script Why) (w : Why) (laid now : Laid) → now ≡ laid → IfErr r (Refuses (boot_fits (said now.plan))) → r ≡ Err w
+pub boot_refused : (r : Result Script PlanError) (w : PlanError) (laid now : PlanLayout) → now ≡ laid → IfErr r (Refuses (boot_fits (said now.plan))) → r ≡ Err w
     → Refuses (boot_fits (said laid.plan)) w
-boot_refused r w laid now same told is =
-    let here : Refuses (boot_fits (said now.plan)) w = subst (λ (s : Result Script Why). IfErr s (Refuses (boot_fits (said now.plan)))) is told in
-    subst (λ (l : Laid). Refuses (boot_fits (said l.plan)) w) same here
+boot_refused r w laid now same error is =
+    let here : Refuses (boot_fits (said now.plan)) w = subst (λ (s : Result Script PlanError). IfErr s (Refuses (boot_fits (said now.plan)))) is error in
+    subst (λ (l : PlanLayout). Refuses (boot_fits (said l.plan)) w) same here
 
 -- a fault that is handed on, whatever it reports
 pub handed : {T : Type 0} (r : Result T PlanFault) (fault : PlanFault) (P : PlanFault → Type 0) → IsErrAnd r (λ e. e ≡ fault) → P fault → IfErr r P
-handed (Ok x) fault P h told = absurd h
-handed (Err y) fault P h told = subst P (sym h) told
+handed (Ok x) fault P h error = absurd h
+handed (Err y) fault P h error = subst P (sym h) error
 
 -- the lines before the first step
 pub front_is : (ls : List (Bor (List ℕ))) (n : ℕ) → n ≡ count_before (texts ls) → lines_said 0 (texts (take n ls)) nothing_said ≡ plan_said (texts ls)
@@ -115,8 +115,8 @@ front_is ls n e =
 
 -- a fault that is handed on
 pub handed_at : {T X : Type 0} (r : Result T PlanFault) (fault : PlanFault) (whole : ReadAt X) → IsErrAnd r (λ e. e ≡ fault) → RefusesAt whole fault → IfErr r (RefusesAt whole)
-handed_at (Ok x) fault whole h told = absurd h
-handed_at (Err y) fault whole h told = subst (λ f. RefusesAt whole f) (sym h) told
+handed_at (Ok x) fault whole h error = absurd h
+handed_at (Err y) fault whole h error = subst (λ f. RefusesAt whole f) (sym h) error
 
 -- bytes that are no text
 pub no_text_there : (bytes : List ℕ) (line : ℕ) → ¬ (IsUtf8 bytes) → line ≡ line_of bytes (utf8_valid_len bytes) → lines_in bytes ≡ Err (line, no_text)

@@ -23,10 +23,10 @@ module _ (laid now : LaidPlan) (same : now ≡ laid) (ls : List (Bor (List ℕ))
 
   -- or it is refused
   pub step_refused : (fault : PlanFault) → RefusesAt (at_line (i + 1) (line_taken now e (get_or ls i d).now)) fault → RefusesAt all fault
-  step_refused fault refuses r told =
+  step_refused fault refuses r error =
       let here : RefusesAt (at_line (i + 1) (line_taken laid e (get_or ls i d).now)) fault =
       subst (λ v. RefusesAt (at_line (i + 1) (line_taken v e (get_or ls i d).now)) fault) same refuses in
-      one_line ∙ ap (λ (r : ReadAt Entries). and_then r (lines_taken laid (i + 1) (drop (i + 1) (texts ls)))) (here r told)
+      one_line ∙ ap (λ (r : ReadAt Entries). and_then r (lines_taken laid (i + 1) (drop (i + 1) (texts ls)))) (here r error)
 
 pub all_taken : (laid : LaidPlan) (ls : List (Bor (List ℕ))) (i : ℕ) (e : Entries) (all : ReadAt Entries) → length ls ≤ i → all ≡ lines_taken laid i (drop i (texts ls)) e → all ≡ Ok e
 all_taken laid ls i e all past so_far =

@@ -19,8 +19,8 @@ use Rattle.mcs_plan_compile.specs.Fields.{fields_of}
 abbrev pub Line : Type 0
 Line = List ℕ × List (List ℕ)
 
--- the address that a word stands for: a number, or that of what the thread names by it, which has
--- none where it is a CNode
+-- the address that a word gives: a number, or the address of what the thread names with the word; a
+-- CNode has none
 abbrev pub address_or : LaidPlan → ObjId → List ℕ → Option ℕ → Read ℕ
 address_or laid t word (Some n) = Ok n
 address_or laid t word None = named_read laid t word >>= λ named. ok_or named.address (not_wanted word)
@@ -38,7 +38,7 @@ place_with index words = do
 abbrev pub place_named : LaidPlan → ObjId → List ℕ → Read Place
 place_named laid t word = named_read laid t word >>= λ named. Ok named.place
 
--- the place that words stand for: an index and a depth, or a name
+-- the place that words give: an index and a depth, or a name
 abbrev pub place_or : LaidPlan → ObjId → List ℕ → List (List ℕ) → Option ℕ → Read (Place × List (List ℕ))
 place_or laid t word rest (Some index) = place_with index rest
 place_or laid t word rest None = place_named laid t word >>= λ place. Ok (place, rest)
@@ -70,7 +70,7 @@ number_more most words line = do
   (n, left) ← number_then most words
   Ok (with_word line (decimal n), left)
 
--- a letter, where rights have this one
+-- a letter, if the rights have this right
 abbrev pub right_letter : ℕ → ℕ → List ℕ → List ℕ
 right_letter rights right letter = cond (bit_and rights right == 0) [] letter
 
@@ -104,7 +104,7 @@ abbrev pub numbers_more : List (List ℕ) → List ℕ → Read (List ℕ)
 numbers_more [] line = Ok line
 numbers_more (word ∷ words) line = number_more 18446744073709551615 (word ∷ words) line >>= λ more. numbers_more words more.0
 
--- a label and words more, which are not too many
+-- a label and the words after it, which are not too many
 abbrev pub message_more : List (List ℕ) → List ℕ → Read Line
 message_more words line = do
   (labelled, left) ← number_more 4503599627370495 words line

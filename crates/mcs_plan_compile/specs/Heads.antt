@@ -18,10 +18,10 @@ abbrev pub core_text : Option CoreId → List ℕ
 core_text (Some core) = decimal core.0
 core_text None = codes "user"
 
--- who enters, and where
+-- the entering thread, and its core
 abbrev pub head_text : Head → List ℕ
 head_text head = with_word (core_text head.core) (object_text head.thread)
 
--- the line of a step, or of a user: who enters, and the entry that words spell
+-- the line of a step, or of a user: the entering thread, and the entry that words spell
 abbrev pub step_read : LaidPlan → Head → List (List ℕ) → Read (List ℕ)
 step_read laid head words = entry_more laid head.thread words (head_text head)

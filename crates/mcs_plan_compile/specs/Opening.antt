@@ -10,7 +10,7 @@ use Rattle.mcs_plan_source.specs.Threads.{thread_at}
 use Rattle.mcs_plan_layout.specs.Laid.{LaidPlan}
 use Rattle.mcs_plan_compile.specs.declared.compiling.Entries.{Entries}
 use Rattle.mcs_plan_compile.specs.declared.compiling.Entries.TheVariants as entries
-use Rattle.mcs_plan_compile.specs.declared.compiling.Opening.{Opening}
+use Rattle.mcs_plan_compile.specs.declared.compiling.PassiveSetup.{PassiveSetup}
 use Rattle.mcs_plan_compile.specs.declared.steps.Head.{Head}
 use Rattle.mcs_plan_compile.specs.Heads.{step_read}
 use Rattle.mcs_plan_compile.specs.Programs.{all_closed}
@@ -56,13 +56,13 @@ abbrev pub opening_said : LaidPlan → SaidPassive → Read (Unit {0})
 opening_said laid p = both_added laid (receive_head laid.plan p) (receive_text p) (unbind_text laid.plan p)
 
 -- what was made of a passive thread, and of the one at a place
-pub record IsOpeningOf (s : Said) (p : SaidPassive) (o : Opening) : Type 0 where
+pub record IsOpeningOf (s : Said) (p : SaidPassive) (o : PassiveSetup) : Type 0 where
   pub line : o.line ≡ p.line
   pub head : o.head ≡ receive_head s p
   pub receive : string_bytes o.receive ≡ receive_text p
   pub unbind : string_bytes o.unbind ≡ unbind_text s p
 
-pub record IsOpeningAt (s : Said) (place : ℕ) (o : Opening) : Type 0 where
+pub record IsOpeningAt (s : Said) (place : ℕ) (o : PassiveSetup) : Type 0 where
   pub passive : SaidPassive
   pub there : slice_get s.passives place ≡ Some passive
   pub opens : IsOpeningOf s passive o
@@ -97,8 +97,8 @@ steps_said laid found =
     and_then (lines_taken laid (count_before found) (drop (count_before found) found) entries.Nothing) (λ e. at_line (length found) (all_closed e))
 
 -- all after the lines before the first step
-abbrev pub behind_said : LaidPlan → List (List ℕ) → ReadAt Entries
-behind_said laid found = and_then (opened_said laid) (λ done. steps_said laid found)
+abbrev pub after_said : LaidPlan → List (List ℕ) → ReadAt Entries
+after_said laid found = and_then (opened_said laid) (λ done. steps_said laid found)
 
 -- whether lines of users followed
 abbrev pub are_users : Entries → Bool

@@ -5,7 +5,7 @@ use Rattle.mcs_types.specs.declared.id.Kind.TheVariants as kind
 use Rattle.mcs_explore_programs.specs.declared.program.TheConstants.{DEPTH}
 use Rattle.mcs_plan_source.specs.Objects.{named_as}
 use Rattle.mcs_plan_source.specs.Refusals.{Read, ◌>>=◌, ◌>>◌, limit, need, unclosed}
-use Rattle.mcs_plan_source.specs.Words.{behind, end_of, word_then}
+use Rattle.mcs_plan_source.specs.Words.{after_word, end_of, word_then}
 use Rattle.mcs_plan_layout.specs.Laid.{LaidPlan}
 use Rattle.mcs_plan_compile.specs.declared.compiling.Entries.{Entries}
 use Rattle.mcs_plan_compile.specs.declared.compiling.Entries.TheVariants as entries
@@ -18,9 +18,9 @@ abbrev pub ends_with_colon : List ℕ → Bool
 ends_with_colon word = elim (slice_get word (length word - 1)) [ None ↦ false | Some b ↦ b == 58 ]
 
 -- the words after the name of an entry or a block, if they have one
-abbrev pub behind_name : List (List ℕ) → List (List ℕ)
-behind_name [] = []
-behind_name (word ∷ words) = cond (ends_with_colon word) words (word ∷ words)
+abbrev pub after_name : List (List ℕ) → List (List ℕ)
+after_name [] = []
+after_name (word ∷ words) = cond (ends_with_colon word) words (word ∷ words)
 
 -- whether words spell an entry: the first is the word of one
 abbrev pub is_entry : List (List ℕ) → Bool
@@ -44,7 +44,7 @@ entry_said laid t words = do
 
 -- a statement: the names in an entry are those of the thread
 abbrev pub statement_said : LaidPlan → ObjId → List (List ℕ) → Read (Unit {0})
-statement_said laid t words = cond (is_entry (behind_name words)) (entry_said laid t (behind_name words)) (Ok tt)
+statement_said laid t words = cond (is_entry (after_name words)) (entry_said laid t (after_name words)) (Ok tt)
 
 -- whether a statement closes a block, and whether it opens one
 abbrev pub closes : List (List ℕ) → Bool
@@ -58,8 +58,8 @@ opens words = elim (slice_get words (length words - 1)) [ None ↦ false | Some 
 abbrev pub open_still : ℕ → List (List ℕ) → ℕ
 open_still blocks words = cond (closes words) (blocks - 1) blocks
 
-abbrev pub open_behind : ℕ → List (List ℕ) → Read ℕ
-open_behind blocks words =
+abbrev pub open_after : ℕ → List (List ℕ) → Read ℕ
+open_after blocks words =
     cond (opens words) (need (nat_lt (open_still blocks words) DEPTH) (limit DEPTH) >> Ok (open_still blocks words + 1)) (Ok (open_still blocks words))
 
 -- whether a statement closes the program
@@ -76,7 +76,7 @@ program_ended words = do
 abbrev pub statement_taken : LaidPlan → ObjId → ℕ → List (List ℕ) → Read Entries
 statement_taken laid t blocks words = do
   statement_said laid t words
-  left ← open_behind blocks words
+  left ← open_after blocks words
   Ok (entries.Program t left)
 
 -- a line of a program
@@ -88,7 +88,7 @@ abbrev pub program_head : LaidPlan → List (List ℕ) → Read ObjId
 program_head laid words = do
   (name, left) ← word_then words
   thread ← named_as kind.Thread name laid.plan.names
-  blocks ← behind (codes "{") left
+  blocks ← after_word (codes "{") left
   end_of blocks
   Ok thread
 

@@ -4,7 +4,7 @@ use Rattle.std.specs.Prelude.{◌≡◌, ◌+◌, ℕ, List, [], ◌∷◌, Resu
 use Rattle.std.specs.Option.{ForSome}
 use Rattle.mcs_plan_source.specs.declared.fault.PlanFault.{PlanFault}
 use Rattle.mcs_plan_source.specs.Cutting.{words_of, code_of}
-use Rattle.mcs_plan_source.specs.Refusals.{Refusal, Read, ◌>>◌, need, limit, told_by}
+use Rattle.mcs_plan_source.specs.Refusals.{Refusal, Read, ◌>>◌, need, limit, refusal_by}
 use Rattle.mcs_plan_source.specs.Saying.{Said, nothing_said}
 use Rattle.mcs_plan_source.specs.ThreadLines.{line_more}
 use Rattle.mcs_plan_compile.specs.declared.lines.TheConstants.{LINE_BYTES}
@@ -24,10 +24,10 @@ abbrev pub and_then : {A B : Type 0} → ReadAt A → (A → ReadAt B) → ReadA
 and_then (Ok x) f = f x
 and_then (Err e) f = Err e
 
--- a fault that is reported is the one that the reading ends in, at its line; that memory was
--- refused says nothing
+-- a reported fault is the one in which the reading ends, at its line; if memory was refused,
+-- nothing is claimed
 abbrev pub RefusesAt : {X : Type 0} → ReadAt X → PlanFault → Type 0
-RefusesAt read fault = ForSome (told_by fault.why) (λ e. read ≡ Err (fault.line, e))
+RefusesAt read fault = ForSome (refusal_by fault.why) (λ e. read ≡ Err (fault.line, e))
 
 -- a line that is not too long
 abbrev pub short : List ℕ → Read (Unit {0})

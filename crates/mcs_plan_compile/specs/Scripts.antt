@@ -7,7 +7,7 @@ use Rattle.mcs_plan_layout.specs.Boot.{boot_of}
 use Rattle.mcs_plan_layout.specs.Starting.{IsStarted}
 use Rattle.mcs_plan_compile.specs.declared.script.Script.{Script}
 use Rattle.mcs_plan_compile.specs.declared.compiling.Entries.{Entries}
-use Rattle.mcs_plan_compile.specs.Opening.{behind_said, are_users}
+use Rattle.mcs_plan_compile.specs.Opening.{after_said, are_users}
 use Rattle.mcs_plan_compile.specs.Reading.{plan_said}
 use Rattle.mcs_plan_compile.specs.Telling.{lines_in}
 
@@ -20,7 +20,7 @@ pub record HasBootOfPlan (s : Script) : Type 0 where
 -- says whether these are of users
 pub record HasStepsOf (found : List (List ℕ)) (s : Script) : Type 0 where
   pub entries : Entries
-  pub taken : behind_said (laid_said s.laid) found ≡ Ok entries
+  pub taken : after_said (laid_said s.laid) found ≡ Ok entries
   pub users : s.is_users ≡ are_users entries
 
 -- the plan of a script is what lines say before the first step, and the thread that makes others

@@ -10,7 +10,7 @@ use Rattle.mcs_plan_source.specs.Objects.{named_as}
 use Rattle.mcs_plan_source.specs.Refusals.{Read, ◌>>=◌, ◌>>◌, need, late, no_step}
 use Rattle.mcs_plan_source.specs.Saying.{Said}
 use Rattle.mcs_plan_source.specs.Threads.{thread_at}
-use Rattle.mcs_plan_source.specs.Words.{word_then, behind, end_of, number_then}
+use Rattle.mcs_plan_source.specs.Words.{word_then, after_word, end_of, number_then}
 use Rattle.mcs_plan_layout.specs.Laid.{LaidPlan}
 use Rattle.mcs_plan_layout.specs.Naming.{cores_of}
 use Rattle.mcs_plan_compile.specs.declared.compiling.Entries.{Entries}
@@ -34,8 +34,8 @@ last_core laid = cores_of laid.plan.cores laid.plan.contexts - 1
 -- `on core N`: one of those that there are
 abbrev pub core_said : LaidPlan → List (List ℕ) → Read (CoreId × List (List ℕ))
 core_said laid words = do
-  on ← behind (codes "on") words
-  core ← behind (codes "core") on
+  on ← after_word (codes "on") words
+  core ← after_word (codes "core") on
   (n, left) ← number_then (last_core laid) core
   Ok (record { 0 = n }, left)
 
@@ -85,7 +85,7 @@ abbrev pub headed_taken : LaidPlan → Entries → List ℕ → List (List ℕ) 
 headed_taken laid e first rest (Some p) = entry_taken laid e p
 headed_taken laid e first rest None = if bytes_eq first (codes "program") then program_begun laid e rest else Err late
 
--- what is wanted of the step before
+-- the answer and the records that are expected of the step before
 abbrev pub wanted_taken : LaidPlan → Entries → List (List ℕ) → Read Entries
 wanted_taken laid e words = do
   need (is_steps e) no_step

@@ -32,7 +32,7 @@ abbrev pub begins_program : List ℕ → Bool
 begins_program [] = false
 begins_program (b ∷ bs) = cond (is_white b) (begins_program bs) (is_program_word (b ∷ bs))
 
--- whether a line is that of a step, of a user, or of what is wanted, or the first of a program
+-- whether a line is a step, an entry of a user, an expectation, or the first line of a program
 abbrev pub begins_steps : List ℕ → Bool
 begins_steps line = is_some (cut_at_colon (code_of line)) || (asks (code_of line) || begins_program (code_of line))
 

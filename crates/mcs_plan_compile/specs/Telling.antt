@@ -1,4 +1,4 @@
--- What is reported of a text that no script comes of.
+-- What is reported of a text that does not compile to a script.
 use Rattle.std.specs.Prelude.{◌≡◌, ◌+◌, ◌==◌, ◌⊎◌, ℕ, List, Ok, Err, length, take, count_by, nat_lt, if◌then◌else◌}
 use Rattle.std.specs.Str.{is_utf8}
 use Rattle.std.specs.Str.Lossy.{utf8_valid_len}
@@ -11,7 +11,7 @@ use Rattle.mcs_plan_layout.specs.Laid.{LaidPlan, laid_of}
 use Rattle.mcs_plan_layout.specs.Starting.{IsStarted, RefusesStarter}
 use Rattle.mcs_plan_compile.specs.declared.compiling.Entries.{Entries}
 use Rattle.mcs_plan_compile.specs.declared.compiling.TheConstants.{LINES}
-use Rattle.mcs_plan_compile.specs.Opening.{behind_said}
+use Rattle.mcs_plan_compile.specs.Opening.{after_said}
 use Rattle.mcs_plan_compile.specs.Reading.{ReadAt, RefusesAt, plan_said}
 
 -- the number of the line in which a byte is
@@ -30,37 +30,38 @@ lines_in bytes = if is_utf8 bytes then few_lines (lines bytes) else Err (line_of
 -- have what it makes
 pub record RefusesBoot (laid : LaidPlan) (found : List (List ℕ)) (fault : PlanFault) : Type 0 where
   pub entries : Entries
-  pub taken : behind_said laid found ≡ Ok entries
+  pub taken : after_said laid found ≡ Ok entries
   pub line : fault.line ≡ length found
-  pub told : Refuses (boot_fits laid.plan) fault.why
+  pub error : Refuses (boot_fits laid.plan) fault.why
 
 -- what is refused of a plan that is laid out: the first step or line that may not be taken, or in
 -- the end its boot
 abbrev pub RefusesLaid : LaidPlan → List (List ℕ) → PlanFault → Type 0
-RefusesLaid laid found fault = RefusesAt (behind_said laid found) fault ⊎ RefusesBoot laid found fault
+RefusesLaid laid found fault = RefusesAt (after_said laid found) fault ⊎ RefusesBoot laid found fault
 
 -- what is refused of a plan that is laid out with the thread that makes others passive, where one
 -- is
 pub record RefusesStarted (plan : Said) (found : List (List ℕ)) (fault : PlanFault) : Type 0 where
   pub new : Said
   pub started : IsStarted plan new
-  pub told : RefusesLaid (laid_of new) found fault
+  pub error : RefusesLaid (laid_of new) found fault
 
 -- what is refused after the lines before the first step, which say this plan
-pub record RefusesBehind (found : List (List ℕ)) (fault : PlanFault) : Type 0 where
+pub record RefusesAfter (found : List (List ℕ)) (fault : PlanFault) : Type 0 where
   pub plan : Said
   pub says : plan_said found ≡ Ok plan
-  pub told : RefusesStarter plan fault ⊎ RefusesStarted plan found fault
+  pub error : RefusesStarter plan fault ⊎ RefusesStarted plan found fault
 
--- what is reported of lines: the first that is refused
+-- the fault that is reported for lines: it names the first refused line
 abbrev pub TellsLines : List (List ℕ) → PlanFault → Type 0
-TellsLines found fault = RefusesAt (plan_said found) fault ⊎ RefusesBehind found fault
+TellsLines found fault = RefusesAt (plan_said found) fault ⊎ RefusesAfter found fault
 
--- what is reported of bytes: that they are no text, or too many lines, or of their lines
+-- the fault that is reported for bytes: that they are no text, that they have too many lines, or
+-- the fault of their lines
 pub record TellsOfLines (bytes : List ℕ) (fault : PlanFault) : Type 0 where
   pub found : List (List ℕ)
   pub are : lines_in bytes ≡ Ok found
-  pub told : TellsLines found fault
+  pub error : TellsLines found fault
 
 abbrev pub TellsPlan : List ℕ → PlanFault → Type 0
 TellsPlan bytes fault = RefusesAt (lines_in bytes) fault ⊎ TellsOfLines bytes fault

@@ -1,4 +1,4 @@
--- What is wanted of a step, as a script has it, or why it is refused (own).
+-- What is expected of a step, as a script has it, or why it is refused (own).
 use Rattle.std.specs.Prelude.{◌++◌, ◌==◌, ◌&&◌, ◌||◌, ℕ, Bool, false, List, [], ◌∷◌, Option, Some, None, Ok, is_some, is_none, decimal, codes, bytes_eq, option_map, if◌then◌else◌}
 use Rattle.std.specs.Option.{ok_or}
 use Rattle.mcs_types.specs.declared.id.ObjId.{ObjId}

@@ -3,14 +3,14 @@ ghost use Rattle.std.specs.Prelude.{◌≡◌, ◌≤◌, ◌<◌, ◌+◌, ◌^
 ghost use Rattle.std.specs.Str.{is_utf8};
 ghost use Rattle.std.specs.Str.Lines.{lines};
 ghost use Rattle.mcs_plan_source.specs.Naming.{texts};
-ghost use Rattle.mcs_plan_source.specs.Refusals.{Refuses, need, no_step, told_by};
+ghost use Rattle.mcs_plan_source.specs.Refusals.{Refuses, need, no_step, refusal_by};
 ghost use Rattle.mcs_plan_source.specs.Saying.{said, said_passive, nothing_said};
 ghost use Rattle.mcs_plan_layout.specs.Fitting.{boot_fits};
 ghost use Rattle.mcs_plan_layout.specs.Laid.{laid_said};
 ghost use Rattle.mcs_plan_compile.specs.declared.compiling.Entries.TheVariants.{Nothing};
 ghost use Rattle.mcs_plan_compile.specs.Mixing.{is_steps, goes_on};
 ghost use Rattle.mcs_plan_compile.specs.Opening.{receive_text, receive_head, starter_head, name_or_none, context_in, unbind_text, step_added, both_added, IsOpeningOf, IsOpeningAt};
-ghost use Rattle.mcs_plan_compile.specs.Opening.{opened_at, openings_said, left_said, opened_said, steps_said, behind_said, are_users};
+ghost use Rattle.mcs_plan_compile.specs.Opening.{opened_at, openings_said, left_said, opened_said, steps_said, after_said, are_users};
 ghost use Rattle.mcs_plan_compile.specs.Programs.{all_closed, program_begun, program_ended, program_taken, statement_taken};
 ghost use Rattle.mcs_plan_compile.specs.Reading.{RefusesAt, at_line, line_said, lines_said, plan_said};
 ghost use Rattle.mcs_plan_compile.specs.Scripts.{HasBootOfPlan, HasStepsOf, HasPlanOfLines, HasPlanOf};
@@ -20,14 +20,16 @@ ghost use Rattle.mcs_plan_compile.specs.Telling.{RefusesLaid, TellsLines, TellsP
 
 use crate::lines::{add_comment, count_before, is_short, line_of, lines_of, split_colon};
 use crate::programs::{
-    fault_of, is_end, open_behind, open_still, program_head, program_line, statement_text,
+    fault_of, is_end, open_after, open_still, program_head, program_line, statement_text,
 };
 use crate::script::Script;
 use crate::steps::{Head, object_text, read_head, write_entry};
 use crate::wanting::read_wanted;
 use mcs_explore_programs::{FaultyLine, ProgramLines};
-use mcs_plan_layout::Laid;
-use mcs_plan_source::{Names, Passive, Plan, PlanFault, Why, Words, split_comment, split_words};
+use mcs_plan_layout::PlanLayout;
+use mcs_plan_source::{
+    Passive, Plan, PlanError, PlanFault, Symbols, Tokens, split_comment, split_words,
+};
 use mcs_types::{CoreId, Kind, ObjId};
 use std::alloc::{AllocError, Global};
 
@@ -54,7 +56,7 @@ struct OpenProgram {
 /// A plan whose boot was read, and the script's lines after the boot so far.
 #[derive(Drop)]
 struct Compiler {
-    laid: Laid,
+    laid: PlanLayout,
     lines: Vec<String>,
     entries: Entries,
     program: Option<OpenProgram>,
@@ -69,8 +71,8 @@ fn has_thread(threads: &[ObjId], thread: ObjId) -> bool {
 }
 
 /// Fails with the fault that the reader of programs gives for a line.
-fn told(alloc: Global, done: Result<(), FaultyLine>) -> Result<(), Why>
-    ensures { IfErr result (λ w. told_by w ≡ None) }
+fn program_error(alloc: Global, done: Result<(), FaultyLine>) -> Result<(), PlanError>
+    ensures { IfErr result (λ w. refusal_by w ≡ None) }
 {
     match done {
         Ok(()) => Ok(()),
@@ -79,7 +81,7 @@ fn told(alloc: Global, done: Result<(), FaultyLine>) -> Result<(), Why>
 }
 
 /// Adds the line to a fault.
-fn at<T: Drop>(line: u64, done: Result<T, Why>) -> Result<T, PlanFault>
+fn at<T: Drop>(line: u64, done: Result<T, PlanError>) -> Result<T, PlanFault>
     ensures ok { IfOk result (λ value. done ≡ Ok value) }
     ensures err { IfErr result (λ fault. (fault.line ≡ line) × (done ≡ Err fault.why)) }
 {
@@ -96,10 +98,10 @@ fn read_before(
     front: &mut Vec<String>,
     number: u64,
     line: &str,
-) -> Result<(), Why>
+) -> Result<(), PlanError>
     ensures said { OnOk result
         (line_said number line.now (said plan.old) ≡ Ok (said plan.new)) }
-    ensures told { IfErr result (Refuses (line_said number line.now (said plan.old))) }
+    ensures error { IfErr result (Refuses (line_said number line.now (said plan.old))) }
 {
     is_short(line)?;
     let (code, comment) = split_comment(line);
@@ -111,7 +113,7 @@ fn read_before(
 }
 
 /// Adds the lines of names: `#@ OBJECT NAME`.
-fn add_names(alloc: Global, names: &Names, to: &mut Vec<String>) -> Result<(), AllocError> {
+fn add_names(alloc: Global, names: &Symbols, to: &mut Vec<String>) -> Result<(), AllocError> {
     for i in 0..names.len() {
         if let Some((name, object)) = names.at(i) {
             let mut line = String::from_str(alloc, "#@ ")?;
@@ -127,8 +129,8 @@ fn add_names(alloc: Global, names: &Names, to: &mut Vec<String>) -> Result<(), A
 
 /// The steps that make a thread passive: its receive, and then the removal of its context.
 #[derive(Drop)]
-struct Opening {
-    /// The line of the plan that declares the thread.
+struct PassiveSetup {
+    /// The number of the line of the plan that declares the thread.
     line: u64,
     head: Head,
     receive: String,
@@ -168,11 +170,11 @@ fn unbind_text(alloc: Global, plan: &Plan, passive: &Passive) -> Result<String, 
 }
 
 /// Returns the steps that make a thread passive.
-fn opening_of(alloc: Global, plan: &Plan, passive: &Passive) -> Result<Opening, Why>
+fn opening_of(alloc: Global, plan: &Plan, passive: &Passive) -> Result<PassiveSetup, PlanError>
     ensures opening { IfOk result (IsOpeningOf (said plan.now) (said_passive passive.now)) }
-    ensures told { IfErr result (λ w. told_by w ≡ None) }
+    ensures error { IfErr result (λ w. refusal_by w ≡ None) }
 {
-    Ok(Opening {
+    Ok(PassiveSetup {
         line: passive.line,
         head: Head {
             thread: passive.thread,
@@ -185,10 +187,10 @@ fn opening_of(alloc: Global, plan: &Plan, passive: &Passive) -> Result<Opening, 
 
 /// Returns the steps that make the passive thread at this index passive.
 #[tactic(auto, using(crate::proofs::Opened::opening_there))]
-fn opening_at(alloc: Global, plan: &Plan, place: usize) -> Result<Opening, PlanFault>
+fn opening_at(alloc: Global, plan: &Plan, place: usize) -> Result<PassiveSetup, PlanFault>
     requires { place < length plan.now.passives.items }
     ensures opening { IfOk result (IsOpeningAt (said plan.now) place) }
-    ensures told { IfErr result (λ fault. told_by fault.why ≡ None) }
+    ensures error { IfErr result (λ fault. refusal_by fault.why ≡ None) }
 {
     at(0, opening_of(alloc, plan, &plan.passives[place]))
 }
@@ -208,9 +210,10 @@ fn starter_head(plan: &Plan) -> Head
 
 impl Compiler {
     /// Adds a step that is not in the plan.
-    fn add_step(&mut self, alloc: Global, head: Head, text: &str) -> Result<(), Why>
+    fn add_step(&mut self, alloc: Global, head: Head, text: &str) -> Result<(), PlanError>
         ensures added { OnOk result (step_added (laid_said self.old.laid) head text.now ≡ Ok tt) }
-        ensures told { IfErr result (Refuses (step_added (laid_said self.old.laid) head text.now)) }
+        ensures error { IfErr result
+            (Refuses (step_added (laid_said self.old.laid) head text.now)) }
         ensures laid { self.new.laid ≡ self.old.laid }
         ensures entries { self.new.entries ≡ self.old.entries }
     {
@@ -221,10 +224,10 @@ impl Compiler {
     }
 
     /// Adds the steps that make a thread passive.
-    fn add_opening(&mut self, alloc: Global, opening: &Opening) -> Result<(), Why>
+    fn add_opening(&mut self, alloc: Global, opening: &PassiveSetup) -> Result<(), PlanError>
         ensures added { OnOk result (both_added (laid_said self.old.laid) opening.now.head
             (string_bytes opening.now.receive) (string_bytes opening.now.unbind) ≡ Ok tt) }
-        ensures told { IfErr result (Refuses (both_added (laid_said self.old.laid) opening.now.head
+        ensures error { IfErr result (Refuses (both_added (laid_said self.old.laid) opening.now.head
             (string_bytes opening.now.receive) (string_bytes opening.now.unbind))) }
         ensures laid { self.new.laid ≡ self.old.laid }
         ensures entries { self.new.entries ≡ self.old.entries }
@@ -235,11 +238,11 @@ impl Compiler {
     }
 
     /// Adds the steps that make a thread passive; a fault is reported at the thread's line.
-    fn do_opening(&mut self, alloc: Global, opening: &Opening) -> Result<(), PlanFault>
+    fn do_opening(&mut self, alloc: Global, opening: &PassiveSetup) -> Result<(), PlanFault>
         ensures added { OnOk result (at_line opening.now.line
             (both_added (laid_said self.old.laid) opening.now.head
             (string_bytes opening.now.receive) (string_bytes opening.now.unbind)) ≡ Ok tt) }
-        ensures told { IfErr result (RefusesAt (at_line opening.now.line
+        ensures error { IfErr result (RefusesAt (at_line opening.now.line
             (both_added (laid_said self.old.laid) opening.now.head
             (string_bytes opening.now.receive) (string_bytes opening.now.unbind)))) }
         ensures laid { self.new.laid ≡ self.old.laid }
@@ -253,7 +256,7 @@ impl Compiler {
     fn open(&mut self, alloc: Global, place: usize) -> Result<(), PlanFault>
         requires { place < length self.old.laid.plan.passives.items }
         ensures added { OnOk result (opened_at (laid_said self.old.laid) place ≡ Ok tt) }
-        ensures told { IfErr result (RefusesAt (opened_at (laid_said self.old.laid) place)) }
+        ensures error { IfErr result (RefusesAt (opened_at (laid_said self.old.laid) place)) }
         ensures laid { self.new.laid ≡ self.old.laid }
         ensures entries { self.new.entries ≡ self.old.entries }
     {
@@ -265,7 +268,7 @@ impl Compiler {
     fn open_each(&mut self, alloc: Global) -> Result<(), PlanFault>
         ensures added { OnOk result
             (openings_said (laid_said self.old.laid) (said self.old.laid.plan).passives ≡ Ok tt) }
-        ensures told { IfErr result (RefusesAt
+        ensures error { IfErr result (RefusesAt
             (openings_said (laid_said self.old.laid) (said self.old.laid.plan).passives)) }
         ensures laid { self.new.laid ≡ self.old.laid }
         ensures entries { self.new.entries ≡ self.old.entries }
@@ -281,7 +284,7 @@ impl Compiler {
     fn leave(&mut self, alloc: Global) -> Result<(), PlanFault>
         ensures added { OnOk result
             (left_said (laid_said self.old.laid) (said self.old.laid.plan).passives ≡ Ok tt) }
-        ensures told { IfErr result
+        ensures error { IfErr result
             (RefusesAt (left_said (laid_said self.old.laid) (said self.old.laid.plan).passives)) }
         ensures laid { self.new.laid ≡ self.old.laid }
         ensures entries { self.new.entries ≡ self.old.entries }
@@ -297,7 +300,7 @@ impl Compiler {
     /// is taken away; then `starter`, which did this, suspends itself.
     fn open_all(&mut self, alloc: Global) -> Result<(), PlanFault>
         ensures added { OnOk result (opened_said (laid_said self.old.laid) ≡ Ok tt) }
-        ensures told { IfErr result (RefusesAt (opened_said (laid_said self.old.laid))) }
+        ensures error { IfErr result (RefusesAt (opened_said (laid_said self.old.laid))) }
         ensures laid { self.new.laid ≡ self.old.laid }
         ensures entries { self.new.entries ≡ self.old.entries }
     {
@@ -307,20 +310,20 @@ impl Compiler {
 
     /// Checks the kind of a line: `Mixed` if lines of the other kind came before, `PassiveUser` for
     /// a line of a user if a thread is passive.
-    fn goes_with(&mut self, head: Head) -> Result<(), Why>
+    fn goes_with(&mut self, head: Head) -> Result<(), PlanError>
         ensures goes { OnOk result
             (goes_on (laid_said self.old.laid) self.old.entries head.core ≡ Ok self.new.entries) }
-        ensures told { IfErr result
+        ensures error { IfErr result
             (Refuses (goes_on (laid_said self.old.laid) self.old.entries head.core)) }
         ensures laid { self.new.laid ≡ self.old.laid }
     {
         match (self.entries, head.core) {
-            (Entries::Users, Some(_)) | (Entries::Steps, None) => Err(Why::Mixed),
+            (Entries::Users, Some(_)) | (Entries::Steps, None) => Err(PlanError::Mixed),
             (_, Some(_)) => {
                 self.entries = Entries::Steps;
                 Ok(())
             }
-            (_, None) if !self.laid.plan.passives.is_empty() => Err(Why::PassiveUser),
+            (_, None) if !self.laid.plan.passives.is_empty() => Err(PlanError::PassiveUser),
             (_, None) => {
                 self.entries = Entries::Users;
                 Ok(())
@@ -329,8 +332,8 @@ impl Compiler {
     }
 
     /// Notes that a thread has a line of a user. Fails if it has a program.
-    fn note_user(&mut self, alloc: Global, head: Head) -> Result<(), Why>
-        ensures told { IfErr result (λ w. told_by w ≡ None) }
+    fn note_user(&mut self, alloc: Global, head: Head) -> Result<(), PlanError>
+        ensures error { IfErr result (λ w. refusal_by w ≡ None) }
         ensures laid { self.new.laid ≡ self.old.laid }
         ensures entries { self.new.entries ≡ self.old.entries }
     {
@@ -347,10 +350,11 @@ impl Compiler {
     }
 
     /// Adds the line of a step or of a user.
-    fn add_entry(&mut self, alloc: Global, head: &str, text: &str) -> Result<(), Why>
+    fn add_entry(&mut self, alloc: Global, head: &str, text: &str) -> Result<(), PlanError>
         ensures taken { OnOk result (entry_taken (laid_said self.old.laid) self.old.entries
             (head.now, text.now) ≡ Ok self.new.entries) }
-        ensures told { IfErr result (Refuses (entry_taken (laid_said self.old.laid) self.old.entries
+        ensures error { IfErr result
+            (Refuses (entry_taken (laid_said self.old.laid) self.old.entries
             (head.now, text.now))) }
         ensures laid { self.new.laid ≡ self.old.laid }
     {
@@ -364,8 +368,8 @@ impl Compiler {
     }
 
     /// Begins the program of a thread. Fails if it has one already, or lines of a user.
-    fn open_program(&mut self, alloc: Global, thread: ObjId, number: u64) -> Result<(), Why>
-        ensures told { IfErr result (λ w. told_by w ≡ None) }
+    fn open_program(&mut self, alloc: Global, thread: ObjId, number: u64) -> Result<(), PlanError>
+        ensures error { IfErr result (λ w. refusal_by w ≡ None) }
         ensures laid { self.new.laid ≡ self.old.laid }
     {
         if has_thread(&self.programs, thread) || has_thread(&self.users, thread) {
@@ -380,14 +384,14 @@ impl Compiler {
     }
 
     /// Takes the first line of a program, by the words after `program`.
-    fn begin_program(&mut self, alloc: Global, number: u64, words: &[&str]) -> Result<(), Why>
+    fn begin_program(&mut self, alloc: Global, number: u64, words: &[&str]) -> Result<(), PlanError>
         ensures taken { OnOk result (program_begun (laid_said self.old.laid) self.old.entries
             (texts words.now) ≡ Ok self.new.entries) }
-        ensures told { IfErr result
+        ensures error { IfErr result
             (Refuses (program_begun (laid_said self.old.laid) self.old.entries (texts words.now))) }
         ensures laid { self.new.laid ≡ self.old.laid }
     {
-        let mut words = Words::new(words);
+        let mut words = Tokens::new(words);
         let thread = program_head(alloc, &self.laid, &mut words)?;
         self.goes_with(Head { thread, core: None })?;
         self.open_program(alloc, thread, number)?;
@@ -402,13 +406,13 @@ impl Compiler {
         number: u64,
         within: (ObjId, usize),
         text: &str,
-    ) -> Result<(), Why>
-        ensures told { IfErr result (λ w. told_by w ≡ None) }
+    ) -> Result<(), PlanError>
+        ensures error { IfErr result (λ w. refusal_by w ≡ None) }
         ensures laid { self.new.laid ≡ self.old.laid }
         ensures entries { self.new.entries ≡ self.old.entries }
     {
         if let Some(program) = &mut self.program {
-            told(alloc, program.lines.take(number, text.as_bytes()))?;
+            program_error(alloc, program.lines.take(number, text.as_bytes()))?;
         }
         let name = self.laid.plan.names.name_of(within.0);
         let line = program_line(alloc, name, within.1, text)?;
@@ -423,25 +427,25 @@ impl Compiler {
         number: u64,
         within: (ObjId, usize),
         words: &[&str],
-    ) -> Result<(), Why>
+    ) -> Result<(), PlanError>
         ensures taken { OnOk result (statement_taken (laid_said self.old.laid) within.0 within.1
             (texts words.now) ≡ Ok self.new.entries) }
-        ensures told { IfErr result (Refuses
+        ensures error { IfErr result (Refuses
             (statement_taken (laid_said self.old.laid) within.0 within.1 (texts words.now))) }
         ensures laid { self.new.laid ≡ self.old.laid }
     {
         let (thread, blocks) = within;
         let text = statement_text(alloc, &self.laid, thread, words)?;
         let still = open_still(blocks, words);
-        let blocks = open_behind(blocks, words)?;
+        let blocks = open_after(blocks, words)?;
         self.add_statement(alloc, number, (thread, still), text.as_str())?;
         self.entries = Entries::Program { thread, blocks };
         Ok(())
     }
 
     /// Ends the program. Fails if it has no entry.
-    fn close_program(&mut self, alloc: Global) -> Result<(), Why>
-        ensures told { IfErr result (λ w. told_by w ≡ None) }
+    fn close_program(&mut self, alloc: Global) -> Result<(), PlanError>
+        ensures error { IfErr result (λ w. refusal_by w ≡ None) }
         ensures laid { self.new.laid ≡ self.old.laid }
     {
         let Some(program) = self.program.take() else {
@@ -454,12 +458,12 @@ impl Compiler {
     }
 
     /// Takes the last line of a program.
-    fn end_program(&mut self, alloc: Global, words: &[&str]) -> Result<(), Why>
+    fn end_program(&mut self, alloc: Global, words: &[&str]) -> Result<(), PlanError>
         ensures taken { OnOk result (program_ended (texts words.now) ≡ Ok self.new.entries) }
-        ensures told { IfErr result (Refuses (program_ended (texts words.now))) }
+        ensures error { IfErr result (Refuses (program_ended (texts words.now))) }
         ensures laid { self.new.laid ≡ self.old.laid }
     {
-        let mut left = Words::new(words);
+        let mut left = Tokens::new(words);
         left.next();
         left.end(alloc)?;
         self.close_program(alloc)?;
@@ -474,10 +478,10 @@ impl Compiler {
         number: u64,
         within: (ObjId, usize),
         words: &[&str],
-    ) -> Result<(), Why>
+    ) -> Result<(), PlanError>
         ensures taken { OnOk result (program_taken (laid_said self.old.laid) within.0 within.1
             (texts words.now) ≡ Ok self.new.entries) }
-        ensures told { IfErr result (Refuses
+        ensures error { IfErr result (Refuses
             (program_taken (laid_said self.old.laid) within.0 within.1 (texts words.now))) }
         ensures laid { self.new.laid ≡ self.old.laid }
     {
@@ -489,12 +493,12 @@ impl Compiler {
     }
 
     /// Fails with `Unclosed` if a program is open.
-    fn has_closed(&self) -> Result<(), Why>
+    fn has_closed(&self) -> Result<(), PlanError>
         ensures closed { OnOk result (all_closed self.now.entries ≡ Ok self.now.entries) }
-        ensures told { IfErr result (Refuses (all_closed self.now.entries)) }
+        ensures error { IfErr result (Refuses (all_closed self.now.entries)) }
     {
         match self.entries {
-            Entries::Program { .. } => Err(Why::Unclosed {
+            Entries::Program { .. } => Err(PlanError::Unclosed {
                 opened: self.program.as_ref().map_or(0, |program| program.opened),
             }),
             Entries::Nothing | Entries::Steps | Entries::Users => Ok(()),
@@ -502,21 +506,21 @@ impl Compiler {
     }
 
     /// Fails with `NoStep` if there was no step yet.
-    fn has_step(&self) -> Result<(), Why>
+    fn has_step(&self) -> Result<(), PlanError>
         ensures ok { OnOk result (need (is_steps self.now.entries) no_step ≡ Ok tt) }
-        ensures told { IfErr result (Refuses (need (is_steps self.now.entries) no_step)) }
+        ensures error { IfErr result (Refuses (need (is_steps self.now.entries) no_step)) }
     {
         match self.entries {
             Entries::Steps => Ok(()),
-            Entries::Nothing | Entries::Users | Entries::Program { .. } => Err(Why::NoStep),
+            Entries::Nothing | Entries::Users | Entries::Program { .. } => Err(PlanError::NoStep),
         }
     }
 
     /// Adds an expectation of the step before.
-    fn add_wanted(&mut self, alloc: Global, words: &[&str]) -> Result<(), Why>
+    fn add_wanted(&mut self, alloc: Global, words: &[&str]) -> Result<(), PlanError>
         ensures taken { OnOk result (wanted_taken (laid_said self.old.laid) self.old.entries
             (texts words.now) ≡ Ok self.new.entries) }
-        ensures told { IfErr result
+        ensures error { IfErr result
             (Refuses (wanted_taken (laid_said self.old.laid) self.old.entries (texts words.now))) }
         ensures laid { self.new.laid ≡ self.old.laid }
     {
@@ -535,17 +539,17 @@ impl Compiler {
         code: &str,
         first: &str,
         rest: &[&str],
-    ) -> Result<(), Why>
+    ) -> Result<(), PlanError>
         ensures taken { OnOk result (headed_taken (laid_said self.old.laid) self.old.entries
             first.now (texts rest.now) (cut_at_colon code.now) ≡ Ok self.new.entries) }
-        ensures told { IfErr result (Refuses (headed_taken (laid_said self.old.laid)
+        ensures error { IfErr result (Refuses (headed_taken (laid_said self.old.laid)
             self.old.entries first.now (texts rest.now) (cut_at_colon code.now))) }
         ensures laid { self.new.laid ≡ self.old.laid }
     {
         match split_colon(code) {
             Some((head, text)) => self.add_entry(alloc, head, text),
             None if first == "program" => self.begin_program(alloc, number, rest),
-            None => Err(Why::Late),
+            None => Err(PlanError::Late),
         }
     }
 
@@ -557,10 +561,10 @@ impl Compiler {
         code: &str,
         first: &str,
         rest: &[&str],
-    ) -> Result<(), Why>
+    ) -> Result<(), PlanError>
         ensures taken { OnOk result (words_taken (laid_said self.old.laid) self.old.entries
             code.now first.now (texts rest.now) ≡ Ok self.new.entries) }
-        ensures told { IfErr result (Refuses (words_taken (laid_said self.old.laid)
+        ensures error { IfErr result (Refuses (words_taken (laid_said self.old.laid)
             self.old.entries code.now first.now (texts rest.now))) }
         ensures laid { self.new.laid ≡ self.old.laid }
     {
@@ -571,10 +575,10 @@ impl Compiler {
     }
 
     /// Adds the code of a line after the boot, without its comment.
-    fn add_code(&mut self, alloc: Global, number: u64, code: &str) -> Result<(), Why>
+    fn add_code(&mut self, alloc: Global, number: u64, code: &str) -> Result<(), PlanError>
         ensures taken { OnOk result (code_taken (laid_said self.old.laid) self.old.entries
             code.now ≡ Ok self.new.entries) }
-        ensures told { IfErr result
+        ensures error { IfErr result
             (Refuses (code_taken (laid_said self.old.laid) self.old.entries code.now)) }
         ensures laid { self.new.laid ≡ self.old.laid }
     {
@@ -593,10 +597,10 @@ impl Compiler {
     }
 
     /// Adds the line with this number after the boot, with its comment before it.
-    fn add_line(&mut self, alloc: Global, number: u64, line: &str) -> Result<(), Why>
+    fn add_line(&mut self, alloc: Global, number: u64, line: &str) -> Result<(), PlanError>
         ensures taken { OnOk result (line_taken (laid_said self.old.laid) self.old.entries
             line.now ≡ Ok self.new.entries) }
-        ensures told { IfErr result
+        ensures error { IfErr result
             (Refuses (line_taken (laid_said self.old.laid) self.old.entries line.now)) }
         ensures laid { self.new.laid ≡ self.old.laid }
     {
@@ -608,14 +612,14 @@ impl Compiler {
 }
 
 /// Returns the fault of a thread with two programs, or with a program and lines of a user.
-fn both_kinds(alloc: Global) -> Result<Why, AllocError>
-    ensures { IfOk result (λ w. told_by w ≡ None) }
+fn both_kinds(alloc: Global) -> Result<PlanError, AllocError>
+    ensures { IfOk result (λ w. refusal_by w ≡ None) }
 {
-    let told = String::from_str(
+    let message = String::from_str(
         alloc,
         "this thread has lines of a user or a program already",
     )?;
-    Ok(Why::Program { told })
+    Ok(PlanError::Program { message })
 }
 
 /// Returns whether lines or programs of users came.
@@ -639,19 +643,19 @@ fn read_next(
     requires { count + 1 < 2 ^ 64 }
     ensures said { OnOk result
         (line_said (count + 1) line.now (said plan.old) ≡ Ok (said plan.new)) }
-    ensures told { IfErr result
+    ensures error { IfErr result
         (RefusesAt (at_line (count + 1) (line_said (count + 1) line.now (said plan.old)))) }
 {
     let number = count as u64 + 1;
     at(number, read_before(alloc, plan, front, number, line))
 }
 
-/// Returns the plan that lines declare, and the comments among them.
+/// Returns the plan that the lines declare, with the comments among them.
 #[tactic(auto, using(crate::proofs::Said::next_said, crate::proofs::Said::line_refused, crate::proofs::Said::all_said))]
 fn read_plan(alloc: Global, lines: &[&str]) -> Result<(Plan, Vec<String>), PlanFault>
     ensures said { IfOk result
         (λ read. lines_said 0 (texts lines.now) nothing_said ≡ Ok (said read.0)) }
-    ensures told { IfErr result (RefusesAt (lines_said 0 (texts lines.now) nothing_said)) }
+    ensures error { IfErr result (RefusesAt (lines_said 0 (texts lines.now) nothing_said)) }
 {
     let mut plan = Plan::new(alloc);
     let mut front = Vec::new(alloc);
@@ -668,7 +672,7 @@ fn read_plan(alloc: Global, lines: &[&str]) -> Result<(Plan, Vec<String>), PlanF
 fn read_front(alloc: Global, lines: &[&str]) -> Result<(Plan, Vec<String>, usize), PlanFault>
     ensures said { IfOk result (λ read. plan_said (texts lines.now) ≡ Ok (said read.0)) }
     ensures before { IfOk result (λ read. read.2 ≡ count_before (texts lines.now)) }
-    ensures told { IfErr result (RefusesAt (plan_said (texts lines.now))) }
+    ensures error { IfErr result (RefusesAt (plan_said (texts lines.now))) }
 {
     let before = count_before(lines);
     let (plan, front) = read_plan(alloc, &lines[..before])?;
@@ -685,7 +689,7 @@ fn take_next(
     requires { count + 1 < 2 ^ 64 }
     ensures taken { OnOk result (line_taken (laid_said compiler.old.laid) compiler.old.entries
         line.now ≡ Ok compiler.new.entries) }
-    ensures told { IfErr result (RefusesAt (at_line (count + 1)
+    ensures error { IfErr result (RefusesAt (at_line (count + 1)
         (line_taken (laid_said compiler.old.laid) compiler.old.entries line.now))) }
     ensures laid { compiler.new.laid ≡ compiler.old.laid }
 {
@@ -702,7 +706,7 @@ fn read_steps(
 ) -> Result<(), PlanFault>
     ensures taken { OnOk result (lines_taken (laid_said compiler.old.laid) before
         (drop before (texts lines.now)) compiler.old.entries ≡ Ok compiler.new.entries) }
-    ensures told { IfErr result (RefusesAt (lines_taken (laid_said compiler.old.laid) before
+    ensures error { IfErr result (RefusesAt (lines_taken (laid_said compiler.old.laid) before
         (drop before (texts lines.now)) compiler.old.entries)) }
     ensures laid { compiler.new.laid ≡ compiler.old.laid }
 {
@@ -713,11 +717,11 @@ fn read_steps(
 }
 
 /// Returns the script of a plan after its last line.
-fn finish(alloc: Global, compiler: Compiler, comments: Vec<String>) -> Result<Script, Why>
+fn finish(alloc: Global, compiler: Compiler, comments: Vec<String>) -> Result<Script, PlanError>
     ensures boot { IfOk result HasBootOfPlan }
     ensures laid { IfOk result (λ s. s.laid ≡ compiler.laid) }
     ensures users { IfOk result (λ s. s.is_users ≡ are_users compiler.entries) }
-    ensures told { IfErr result (Refuses (boot_fits (said compiler.laid.plan))) }
+    ensures error { IfErr result (Refuses (boot_fits (said compiler.laid.plan))) }
 {
     let Compiler {
         laid,
@@ -749,7 +753,7 @@ fn read_all_steps(
     requires nothing { compiler.old.entries ≡ Nothing }
     ensures taken { OnOk result
         (steps_said (laid_said compiler.old.laid) (texts lines.now) ≡ Ok compiler.new.entries) }
-    ensures told { IfErr result
+    ensures error { IfErr result
         (RefusesAt (steps_said (laid_said compiler.old.laid) (texts lines.now))) }
     ensures laid { compiler.new.laid ≡ compiler.old.laid }
 {
@@ -758,7 +762,7 @@ fn read_all_steps(
 }
 
 /// Adds the steps that make threads passive, and takes the lines from the first step on.
-fn read_behind(
+fn read_after(
     alloc: Global,
     compiler: &mut Compiler,
     lines: &[&str],
@@ -767,9 +771,9 @@ fn read_behind(
     requires before { before ≡ count_before (texts lines.now) }
     requires nothing { compiler.old.entries ≡ Nothing }
     ensures taken { OnOk result
-        (behind_said (laid_said compiler.old.laid) (texts lines.now) ≡ Ok compiler.new.entries) }
-    ensures told { IfErr result
-        (RefusesAt (behind_said (laid_said compiler.old.laid) (texts lines.now))) }
+        (after_said (laid_said compiler.old.laid) (texts lines.now) ≡ Ok compiler.new.entries) }
+    ensures error { IfErr result
+        (RefusesAt (after_said (laid_said compiler.old.laid) (texts lines.now))) }
     ensures laid { compiler.new.laid ≡ compiler.old.laid }
 {
     compiler.open_all(alloc)?;
@@ -779,7 +783,7 @@ fn read_behind(
 /// Returns the script of a plan that is laid out.
 fn compile_laid(
     alloc: Global,
-    laid: Laid,
+    laid: PlanLayout,
     lines: &[&str],
     before: usize,
     front: Vec<String>,
@@ -788,7 +792,7 @@ fn compile_laid(
     ensures boot { IfOk result HasBootOfPlan }
     ensures laid { IfOk result (λ s. s.laid ≡ laid) }
     ensures steps { IfOk result (HasStepsOf (texts lines.now)) }
-    ensures told { IfErr result (RefusesLaid (laid_said laid) (texts lines.now)) }
+    ensures error { IfErr result (RefusesLaid (laid_said laid) (texts lines.now)) }
 {
     let mut compiler = Compiler {
         laid,
@@ -798,7 +802,7 @@ fn compile_laid(
         programs: Vec::new(alloc),
         users: Vec::new(alloc),
     };
-    read_behind(alloc, &mut compiler, lines, before)?;
+    read_after(alloc, &mut compiler, lines, before)?;
     at(lines.len() as u64, finish(alloc, compiler, front))
 }
 
@@ -806,10 +810,10 @@ fn compile_laid(
 fn compile_lines(alloc: Global, lines: &[&str]) -> Result<Script, PlanFault>
     ensures boot { IfOk result HasBootOfPlan }
     ensures plan { IfOk result (HasPlanOfLines (texts lines.now)) }
-    ensures told { IfErr result (TellsLines (texts lines.now)) }
+    ensures error { IfErr result (TellsLines (texts lines.now)) }
 {
     let (plan, front, before) = read_front(alloc, lines)?;
-    let laid = Laid::new(alloc, plan)?;
+    let laid = PlanLayout::new(alloc, plan)?;
     compile_laid(alloc, laid, lines, before, front)
 }
 
@@ -817,13 +821,13 @@ fn compile_lines(alloc: Global, lines: &[&str]) -> Result<Script, PlanFault>
 fn text_of(bytes: &[u8]) -> Result<&str, PlanFault>
     ensures text { IfOk result (λ text. text.now ≡ bytes.now) }
     ensures utf8 { OnOk result (is_utf8 bytes.now ≡ true) }
-    ensures told { IfErr result (RefusesAt (lines_in bytes.now)) }
+    ensures error { IfErr result (RefusesAt (lines_in bytes.now)) }
 {
     match std::str::from_utf8(bytes) {
         Ok(text) => Ok(text),
         Err(error) => Err(PlanFault {
             line: line_of(bytes, error.valid_up_to()),
-            why: Why::NotText,
+            why: PlanError::NotText,
         }),
     }
 }
@@ -831,18 +835,18 @@ fn text_of(bytes: &[u8]) -> Result<&str, PlanFault>
 /// Returns the lines of a text. `Limit` if there are too many.
 fn few_lines(alloc: Global, text: &str) -> Result<Vec<&str>, PlanFault>
     ensures few { IfOk result (λ found. few_lines (lines text.now) ≡ Ok (texts found.items)) }
-    ensures told { IfErr result (RefusesAt (few_lines (lines text.now))) }
+    ensures error { IfErr result (RefusesAt (few_lines (lines text.now))) }
 {
     let Ok(lines) = lines_of(alloc, text) else {
         return Err(PlanFault {
             line: 0,
-            why: Why::OutOfMemory,
+            why: PlanError::OutOfMemory,
         });
     };
     if lines.len() > LINES {
         return Err(PlanFault {
             line: LINES as u64 + 1,
-            why: Why::Limit {
+            why: PlanError::Limit {
                 what: "lines",
                 limit: LINES as u32,
             },
@@ -854,7 +858,7 @@ fn few_lines(alloc: Global, text: &str) -> Result<Vec<&str>, PlanFault>
 /// The lines of bytes.
 fn lines_in(alloc: Global, bytes: &[u8]) -> Result<Vec<&str>, PlanFault>
     ensures lines { IfOk result (λ found. lines_in bytes.now ≡ Ok (texts found.items)) }
-    ensures told { IfErr result (RefusesAt (lines_in bytes.now)) }
+    ensures error { IfErr result (RefusesAt (lines_in bytes.now)) }
 {
     let text = text_of(bytes)?;
     few_lines(alloc, text)
@@ -866,7 +870,7 @@ fn lines_in(alloc: Global, bytes: &[u8]) -> Result<Vec<&str>, PlanFault>
 pub fn compile(alloc: Global, bytes: &[u8]) -> Result<Script, PlanFault>
     ensures boot { IfOk result HasBootOfPlan }
     ensures plan { IfOk result (HasPlanOf bytes.now) }
-    ensures told { IfErr result (TellsPlan bytes.now) }
+    ensures error { IfErr result (TellsPlan bytes.now) }
 {
     let lines = lines_in(alloc, bytes)?;
     compile_lines(alloc, &lines)

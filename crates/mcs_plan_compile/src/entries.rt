@@ -8,8 +8,8 @@ ghost use Rattle.mcs_plan_compile.specs.Entries.{right_letter, rights_text, is_m
 ghost use Rattle.mcs_plan_compile.specs.Entries.{rights_more, kind_more, numbers_more, message_more, field_more, fields_more, entry_more};
 
 use crate::fields::{Field, fields_of};
-use mcs_plan_layout::Laid;
-use mcs_plan_source::{Why, Words, add_word, not, number, rights_of};
+use mcs_plan_layout::PlanLayout;
+use mcs_plan_source::{PlanError, Tokens, add_word, not, number, rights_of};
 use mcs_types::{LABEL_BITS, MESSAGE_WORDS, ObjId, Place, Rights};
 use std::alloc::{AllocError, Global};
 
@@ -22,7 +22,7 @@ const NO_ADDRESS: &str = "an address, since lookup goes on through a CNode: name
 /// A thread whose table resolves names.
 #[derive(Drop)]
 pub struct Speaker<'a> {
-    pub laid: &'a Laid,
+    pub laid: &'a PlanLayout,
     pub thread: ObjId,
 }
 
@@ -56,10 +56,10 @@ fn rights_text(alloc: Global, rights: u8) -> Result<String, AllocError>
 }
 
 /// Reads rights.
-fn read_rights(alloc: Global, to: &mut String, words: &mut Words<'_>) -> Result<(), Why>
+fn read_rights(alloc: Global, to: &mut String, words: &mut Tokens<'_>) -> Result<(), PlanError>
     ensures put { OnOk result
         (rights_more words.old (string_bytes to.old) ≡ Ok (string_bytes to.new, words.new)) }
-    ensures told { IfErr result (Refuses (rights_more words.old (string_bytes to.old))) }
+    ensures error { IfErr result (Refuses (rights_more words.old (string_bytes to.old))) }
 {
     let wanted = "rights, some of rwgp, or -";
     let word = words.need(wanted)?;
@@ -78,10 +78,10 @@ fn is_made(word: &str) -> bool
 }
 
 /// Reads the kind of what is made.
-fn read_kind(alloc: Global, to: &mut String, words: &mut Words<'_>) -> Result<(), Why>
+fn read_kind(alloc: Global, to: &mut String, words: &mut Tokens<'_>) -> Result<(), PlanError>
     ensures put { OnOk result
         (kind_more words.old (string_bytes to.old) ≡ Ok (string_bytes to.new, words.new)) }
-    ensures told { IfErr result (Refuses (kind_more words.old (string_bytes to.old))) }
+    ensures error { IfErr result (Refuses (kind_more words.old (string_bytes to.old))) }
 {
     let wanted = "endpoint, notification, reply or context";
     let word = words.need(wanted)?;
@@ -95,13 +95,13 @@ fn read_kind(alloc: Global, to: &mut String, words: &mut Words<'_>) -> Result<()
 fn read_number(
     alloc: Global,
     to: &mut String,
-    words: &mut Words<'_>,
+    words: &mut Tokens<'_>,
     wanted: &'static str,
     limit: u64,
-) -> Result<(), Why>
+) -> Result<(), PlanError>
     ensures put { OnOk result
         (number_more limit words.old (string_bytes to.old) ≡ Ok (string_bytes to.new, words.new)) }
-    ensures told { IfErr result (Refuses (number_more limit words.old (string_bytes to.old))) }
+    ensures error { IfErr result (Refuses (number_more limit words.old (string_bytes to.old))) }
 {
     let n = words.number(alloc, wanted, limit)?;
     Ok(add_number(alloc, to, n)?)
@@ -112,13 +112,13 @@ fn read_number(
 pub fn read_words(
     alloc: Global,
     to: &mut String,
-    words: &mut Words<'_>,
+    words: &mut Tokens<'_>,
     wanted: &'static str,
-) -> Result<(), Why>
+) -> Result<(), PlanError>
     ensures put { OnOk result
         (numbers_more words.old (string_bytes to.old) ≡ Ok (string_bytes to.new)) }
     ensures none { OnOk result (words.new ≡ []) }
-    ensures told { IfErr result (Refuses (numbers_more words.old (string_bytes to.old))) }
+    ensures error { IfErr result (Refuses (numbers_more words.old (string_bytes to.old))) }
 {
     for _ in 0..words.len() {
         read_number(alloc, to, words, wanted, u64::MAX)?;
@@ -127,14 +127,14 @@ pub fn read_words(
 }
 
 /// Reads a label and words, to the end of the line.
-fn read_message(alloc: Global, to: &mut String, words: &mut Words<'_>) -> Result<(), Why>
+fn read_message(alloc: Global, to: &mut String, words: &mut Tokens<'_>) -> Result<(), PlanError>
     ensures put { OnOk result
         (message_more words.old (string_bytes to.old) ≡ Ok (string_bytes to.new, words.new)) }
-    ensures told { IfErr result (Refuses (message_more words.old (string_bytes to.old))) }
+    ensures error { IfErr result (Refuses (message_more words.old (string_bytes to.old))) }
 {
     read_number(alloc, to, words, "a label, a number of 52 bits", LABEL)?;
     if words.len() > MESSAGE_WORDS {
-        return Err(Why::Limit {
+        return Err(PlanError::Limit {
             what: "words of a message",
             limit: MESSAGE_WORDS as u32,
         });
@@ -143,18 +143,18 @@ fn read_message(alloc: Global, to: &mut String, words: &mut Words<'_>) -> Result
 }
 
 /// Reads a depth.
-fn read_depth(alloc: Global, words: &mut Words<'_>) -> Result<u8, Why>
+fn read_depth(alloc: Global, words: &mut Tokens<'_>) -> Result<u8, PlanError>
     ensures depth { IfOk result (λ d. number_then 255 words.old ≡ Ok (d, words.new)) }
-    ensures told { IfErr result (Refuses (number_then 255 words.old)) }
+    ensures error { IfErr result (Refuses (number_then 255 words.old)) }
 {
     let depth = words.number(alloc, "a depth, 0 to 255", 255)?;
     Ok(depth.min(255) as u8)
 }
 
 /// Reads the depth after an index, and returns the place.
-fn index_place(alloc: Global, index: u64, words: &mut Words<'_>) -> Result<Place, Why>
+fn index_place(alloc: Global, index: u64, words: &mut Tokens<'_>) -> Result<Place, PlanError>
     ensures place { IfOk result (λ p. place_with index words.old ≡ Ok (p, words.new)) }
-    ensures told { IfErr result (Refuses (place_with index words.old)) }
+    ensures error { IfErr result (Refuses (place_with index words.old)) }
 {
     let depth = read_depth(alloc, words)?;
     Ok(Place { index, depth })
@@ -162,10 +162,10 @@ fn index_place(alloc: Global, index: u64, words: &mut Words<'_>) -> Result<Place
 
 impl<'a> Speaker<'a> {
     /// Returns an address: that of a name, or a number. `Not` for the name of a CNode.
-    fn address(&self, alloc: Global, word: &str) -> Result<u64, Why>
+    fn address(&self, alloc: Global, word: &str) -> Result<u64, PlanError>
         ensures stands { IfOk result
             (λ a. address_read (laid_said self.now.laid.now) self.now.thread word.now ≡ Ok a) }
-        ensures told { IfErr result
+        ensures error { IfErr result
             (Refuses (address_read (laid_said self.now.laid.now) self.now.thread word.now)) }
     {
         if let Some(n) = number(word) {
@@ -179,10 +179,10 @@ impl<'a> Speaker<'a> {
     }
 
     /// Returns the place that a name means.
-    fn named_place(&self, alloc: Global, word: &str) -> Result<Place, Why>
+    fn named_place(&self, alloc: Global, word: &str) -> Result<Place, PlanError>
         ensures stands { IfOk result (λ p.
             place_named (laid_said self.now.laid.now) self.now.thread word.now ≡ Ok p) }
-        ensures told { IfErr result
+        ensures error { IfErr result
             (Refuses (place_named (laid_said self.now.laid.now) self.now.thread word.now)) }
     {
         let named = self.laid.named(alloc, self.thread, word)?;
@@ -190,10 +190,10 @@ impl<'a> Speaker<'a> {
     }
 
     /// Reads a place: a name, or an index and a depth.
-    fn place(&self, alloc: Global, words: &mut Words<'_>) -> Result<Place, Why>
+    fn place(&self, alloc: Global, words: &mut Tokens<'_>) -> Result<Place, PlanError>
         ensures stands { IfOk result (λ p. place_read (laid_said self.now.laid.now)
             self.now.thread words.old ≡ Ok (p, words.new)) }
-        ensures told { IfErr result
+        ensures error { IfErr result
             (Refuses (place_read (laid_said self.now.laid.now) self.now.thread words.old)) }
     {
         let word = words.need("a slot")?;
@@ -204,10 +204,15 @@ impl<'a> Speaker<'a> {
     }
 
     /// Reads an address, and appends it as a number.
-    fn read_address(&self, alloc: Global, to: &mut String, words: &mut Words<'_>) -> Result<(), Why>
+    fn read_address(
+        &self,
+        alloc: Global,
+        to: &mut String,
+        words: &mut Tokens<'_>,
+    ) -> Result<(), PlanError>
         ensures put { OnOk result (address_more (laid_said self.now.laid.now) self.now.thread
             words.old (string_bytes to.old) ≡ Ok (string_bytes to.new, words.new)) }
-        ensures told { IfErr result (Refuses (address_more (laid_said self.now.laid.now)
+        ensures error { IfErr result (Refuses (address_more (laid_said self.now.laid.now)
             self.now.thread words.old (string_bytes to.old))) }
     {
         let word = words.need("a capability")?;
@@ -216,10 +221,15 @@ impl<'a> Speaker<'a> {
     }
 
     /// Reads a place, and appends it as two numbers.
-    fn read_place(&self, alloc: Global, to: &mut String, words: &mut Words<'_>) -> Result<(), Why>
+    fn read_place(
+        &self,
+        alloc: Global,
+        to: &mut String,
+        words: &mut Tokens<'_>,
+    ) -> Result<(), PlanError>
         ensures put { OnOk result (place_more (laid_said self.now.laid.now) self.now.thread
             words.old (string_bytes to.old) ≡ Ok (string_bytes to.new, words.new)) }
-        ensures told { IfErr result (Refuses (place_more (laid_said self.now.laid.now)
+        ensures error { IfErr result (Refuses (place_more (laid_said self.now.laid.now)
             self.now.thread words.old (string_bytes to.old))) }
     {
         let place = self.place(alloc, words)?;
@@ -232,12 +242,12 @@ impl<'a> Speaker<'a> {
         &self,
         alloc: Global,
         to: &mut String,
-        words: &mut Words<'_>,
+        words: &mut Tokens<'_>,
         field: Field,
-    ) -> Result<(), Why>
+    ) -> Result<(), PlanError>
         ensures put { OnOk result (field_more (laid_said self.now.laid.now) self.now.thread field
             words.old (string_bytes to.old) ≡ Ok (string_bytes to.new, words.new)) }
-        ensures told { IfErr result (Refuses (field_more (laid_said self.now.laid.now)
+        ensures error { IfErr result (Refuses (field_more (laid_said self.now.laid.now)
             self.now.thread field words.old (string_bytes to.old))) }
     {
         match field {
@@ -258,14 +268,14 @@ impl<'a> Speaker<'a> {
         &self,
         alloc: Global,
         to: &mut String,
-        words: &mut Words<'_>,
+        words: &mut Tokens<'_>,
         fields: &[Field],
-    ) -> Result<(), Why>
+    ) -> Result<(), PlanError>
         ensures put { OnOk result
             (fields_more (laid_said self.now.laid.now) self.now.thread fields.now words.old
             (string_bytes to.old)
             ≡ Ok (string_bytes to.new, words.new)) }
-        ensures told { IfErr result (Refuses
+        ensures error { IfErr result (Refuses
             (fields_more (laid_said self.now.laid.now) self.now.thread fields.now words.old
             (string_bytes to.old))) }
     {
@@ -276,10 +286,15 @@ impl<'a> Speaker<'a> {
     }
 
     /// Writes the entry that words spell; no word may be left after it.
-    pub fn read(&self, alloc: Global, to: &mut String, words: &mut Words<'_>) -> Result<(), Why>
+    pub fn read(
+        &self,
+        alloc: Global,
+        to: &mut String,
+        words: &mut Tokens<'_>,
+    ) -> Result<(), PlanError>
         ensures put { OnOk result (entry_more (laid_said self.now.laid.now) self.now.thread
             words.old (string_bytes to.old) ≡ Ok (string_bytes to.new)) }
-        ensures told { IfErr result (Refuses (entry_more (laid_said self.now.laid.now)
+        ensures error { IfErr result (Refuses (entry_more (laid_said self.now.laid.now)
             self.now.thread words.old (string_bytes to.old))) }
     {
         let key = words.need("an entry")?;

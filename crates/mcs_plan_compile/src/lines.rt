@@ -7,7 +7,7 @@ ghost use Rattle.mcs_plan_compile.specs.Reading.{short};
 ghost use Rattle.mcs_plan_compile.specs.Telling.{line_of};
 ghost use Rattle.mcs_plan_compile.specs.Stepping.{cut_at_colon, asks, begins_program, begins_steps, count_before, is_program_word};
 
-use mcs_plan_source::{Why, is_white, split_comment};
+use mcs_plan_source::{PlanError, is_white, split_comment};
 use std::alloc::{AllocError, Global};
 
 /// How many bytes a line of a plan, or of the script made from it, may have (own); a script may
@@ -44,14 +44,14 @@ pub fn line_of(bytes: &[u8], place: usize) -> u64
 }
 
 /// Fails with Limit for a line that is too long.
-pub fn is_short(line: &str) -> Result<(), Why>
+pub fn is_short(line: &str) -> Result<(), PlanError>
     ensures ok { OnOk result (short line.now ≡ Ok tt) }
-    ensures told { IfErr result (Refuses (short line.now)) }
+    ensures error { IfErr result (Refuses (short line.now)) }
 {
     if line.len() <= LINE_BYTES {
         return Ok(());
     }
-    Err(Why::Limit {
+    Err(PlanError::Limit {
         what: "bytes in a line",
         limit: LINE_BYTES as u32,
     })

@@ -5,7 +5,7 @@ use mcs_plan_layout::Named;
 use mcs_types::{Kind, ObjId};
 use std::alloc::{AllocError, Global};
 
-/// Appends a cell, padded to `columns` columns and two more.
+/// Appends a cell of a table, padded with spaces to `columns` columns, and two spaces after it.
 fn add_cell(to: &mut String, text: &str, columns: usize) -> Result<(), AllocError> {
     to.push_str(text)?;
     let missing = columns.saturating_add(2).saturating_sub(text.len());

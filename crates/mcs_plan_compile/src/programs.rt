@@ -3,16 +3,16 @@
 ghost use Rattle.std.specs.Prelude.{◌≡◌, Ok, None, IfOk, IfErr, OnOk, map};
 ghost use Rattle.mcs_types.specs.declared.id.Kind.TheVariants as kind;
 ghost use Rattle.mcs_plan_source.specs.Naming.{texts};
-ghost use Rattle.mcs_plan_source.specs.Refusals.{Refuses, told_by};
+ghost use Rattle.mcs_plan_source.specs.Refusals.{Refuses, refusal_by};
 ghost use Rattle.mcs_plan_layout.specs.Laid.{laid_said};
-ghost use Rattle.mcs_plan_compile.specs.Programs.{behind_name, closes, ends_with_colon, entry_said, is_end, is_entry, is_value, open_behind, open_still, opens, program_head, statement_said, zeroed};
+ghost use Rattle.mcs_plan_compile.specs.Programs.{after_name, closes, ends_with_colon, entry_said, is_end, is_entry, is_value, open_after, open_still, opens, program_head, statement_said, zeroed};
 
 use crate::fields::fields_of;
 use crate::lines::LINE_BYTES;
 use crate::steps::{Head, thread_named, write_entry};
 use mcs_explore_programs::{DEPTH, ProgramFault};
-use mcs_plan_layout::Laid;
-use mcs_plan_source::{Why, Words, add_word, split_words};
+use mcs_plan_layout::PlanLayout;
+use mcs_plan_source::{PlanError, Tokens, add_word, split_words};
 use mcs_types::ObjId;
 use std::alloc::{AllocError, Global};
 
@@ -27,8 +27,8 @@ fn ends_with_colon(word: &[u8]) -> bool
 }
 
 /// Returns the words after the name of an entry or a block, if they begin with one.
-fn behind_name<'w, 'a>(words: &'w [&'a str]) -> &'w [&'a str]
-    ensures { texts result.now ≡ behind_name (texts words.now) }
+fn after_name<'w, 'a>(words: &'w [&'a str]) -> &'w [&'a str]
+    ensures { texts result.now ≡ after_name (texts words.now) }
 {
     match words {
         [word, rest @ ..] if ends_with_colon(word.as_bytes()) => rest,
@@ -105,10 +105,15 @@ fn add_words(to: &mut String, words: &[&str]) -> Result<(), AllocError> {
 }
 
 /// Returns the entry of a program as a line of a user, with 0 for each value.
-fn plain_entry(alloc: Global, laid: &Laid, thread: ObjId, words: &[&str]) -> Result<String, Why>
+fn plain_entry(
+    alloc: Global,
+    laid: &PlanLayout,
+    thread: ObjId,
+    words: &[&str],
+) -> Result<String, PlanError>
     ensures said { OnOk result
         (entry_said (laid_said laid.now) thread (texts words.now) ≡ Ok tt) }
-    ensures told { IfErr result
+    ensures error { IfErr result
         (Refuses (entry_said (laid_said laid.now) thread (texts words.now))) }
 {
     let plain = without_values(alloc, words)?;
@@ -119,17 +124,17 @@ fn plain_entry(alloc: Global, laid: &Laid, thread: ObjId, words: &[&str]) -> Res
 /// Returns the statement that words spell, as a script has it.
 pub fn statement_text(
     alloc: Global,
-    laid: &Laid,
+    laid: &PlanLayout,
     thread: ObjId,
     words: &[&str],
-) -> Result<String, Why>
+) -> Result<String, PlanError>
     ensures said { OnOk result
         (statement_said (laid_said laid.now) thread (texts words.now) ≡ Ok tt) }
-    ensures told { IfErr result
+    ensures error { IfErr result
         (Refuses (statement_said (laid_said laid.now) thread (texts words.now))) }
 {
     let mut text = String::new(alloc);
-    let entry = behind_name(words);
+    let entry = after_name(words);
     if !is_entry(entry) {
         add_words(&mut text, words)?;
         return Ok(text);
@@ -173,9 +178,9 @@ pub fn open_still(blocks: usize, words: &[&str]) -> usize
 }
 
 /// Returns how many blocks are open after a statement. `Limit` if these are too many.
-pub fn open_behind(blocks: usize, words: &[&str]) -> Result<usize, Why>
-    ensures blocks { IfOk result (λ n. open_behind blocks (texts words.now) ≡ Ok n) }
-    ensures told { IfErr result (Refuses (open_behind blocks (texts words.now))) }
+pub fn open_after(blocks: usize, words: &[&str]) -> Result<usize, PlanError>
+    ensures blocks { IfOk result (λ n. open_after blocks (texts words.now) ≡ Ok n) }
+    ensures error { IfErr result (Refuses (open_after blocks (texts words.now))) }
 {
     let still = open_still(blocks, words);
     if !opens(words) {
@@ -184,7 +189,7 @@ pub fn open_behind(blocks: usize, words: &[&str]) -> Result<usize, Why>
     if still < DEPTH {
         return Ok(still + 1);
     }
-    Err(Why::Limit {
+    Err(PlanError::Limit {
         what: "open blocks",
         limit: DEPTH as u32,
     })
@@ -197,10 +202,14 @@ pub fn is_end(blocks: usize, words: &[&str]) -> bool
     closes(words) && blocks == 0
 }
 
-/// Reads `NAME {`, which follows `program`.
-pub fn program_head(alloc: Global, laid: &Laid, words: &mut Words<'_>) -> Result<ObjId, Why>
+/// Reads `NAME {`, the words after `program`.
+pub fn program_head(
+    alloc: Global,
+    laid: &PlanLayout,
+    words: &mut Tokens<'_>,
+) -> Result<ObjId, PlanError>
     ensures head { IfOk result (λ t. program_head (laid_said laid.now) words.old ≡ Ok t) }
-    ensures told { IfErr result (Refuses (program_head (laid_said laid.now) words.old)) }
+    ensures error { IfErr result (Refuses (program_head (laid_said laid.now) words.old)) }
 {
     let name = words.need("the name of a thread")?;
     let thread = thread_named(alloc, laid, name)?;
@@ -210,19 +219,24 @@ pub fn program_head(alloc: Global, laid: &Laid, words: &mut Words<'_>) -> Result
 }
 
 /// Returns the plan's fault for a fault of a program.
-pub fn fault_of(alloc: Global, fault: ProgramFault) -> Why
-    ensures { told_by result ≡ None }
+pub fn fault_of(alloc: Global, fault: ProgramFault) -> PlanError
+    ensures { refusal_by result ≡ None }
 {
     match format!(in alloc; "{fault}") {
-        Ok(told) => Why::Program { told },
-        Err(_) => Why::OutOfMemory,
+        Ok(message) => PlanError::Program { message },
+        Err(_) => PlanError::OutOfMemory,
     }
 }
 
 /// Returns the script's line for a statement of the thread with this name, inside of `blocks`
 /// blocks. Fails if it is too long for a script.
-pub fn program_line(alloc: Global, name: &str, blocks: usize, text: &str) -> Result<String, Why>
-    ensures { IfErr result (λ w. told_by w ≡ None) }
+pub fn program_line(
+    alloc: Global,
+    name: &str,
+    blocks: usize,
+    text: &str,
+) -> Result<String, PlanError>
+    ensures { IfErr result (λ w. refusal_by w ≡ None) }
 {
     let mut line = String::from_str(alloc, "#! ")?;
     line.push_str(name)?;
@@ -232,8 +246,8 @@ pub fn program_line(alloc: Global, name: &str, blocks: usize, text: &str) -> Res
     }
     line.push_str(text)?;
     if line.len() > LINE_BYTES {
-        let told = format!(in alloc; "the line has more than {LINE_BYTES} bytes in a script")?;
-        return Err(Why::Program { told });
+        let message = format!(in alloc; "the line has more than {LINE_BYTES} bytes in a script")?;
+        return Err(PlanError::Program { message });
     }
     Ok(line)
 }

@@ -1,5 +1,5 @@
 //! The script of a plan, in parts.
-use mcs_plan_layout::Laid;
+use mcs_plan_layout::PlanLayout;
 use mcs_types::BootLine;
 
 /// A script, in parts.
@@ -15,5 +15,5 @@ pub struct Script {
     /// Whether the lines after the boot are those of users.
     pub is_users: bool,
     /// The plan's layout, which resolves names.
-    pub laid: Laid,
+    pub laid: PlanLayout,
 }

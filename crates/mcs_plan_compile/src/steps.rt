@@ -11,8 +11,8 @@ ghost use Rattle.mcs_plan_compile.specs.Heads.{object_text, core_text, head_text
 ghost use Rattle.mcs_plan_compile.specs.StepLines.{last_core, core_said, core_read, step_head, user_head, is_user, head_read};
 
 use crate::entries::{Speaker, add_number};
-use mcs_plan_layout::Laid;
-use mcs_plan_source::{Why, Words, add_word, split_words};
+use mcs_plan_layout::PlanLayout;
+use mcs_plan_source::{PlanError, Tokens, add_word, split_words};
 use mcs_text::letter;
 use mcs_types::{CoreId, Kind, ObjId};
 use std::alloc::{AllocError, Global};
@@ -37,25 +37,25 @@ pub fn object_text(alloc: Global, object: ObjId) -> Result<String, AllocError>
 }
 
 /// The last core.
-fn last_core(laid: &Laid) -> u8
+fn last_core(laid: &PlanLayout) -> u8
     ensures { result ≡ last_core (laid_said laid.now) }
 {
     laid.cores().saturating_sub(1)
 }
 
 /// Reads the number of a core.
-fn core_number(alloc: Global, words: &mut Words<'_>, last: u8) -> Result<u8, Why>
+fn core_number(alloc: Global, words: &mut Tokens<'_>, last: u8) -> Result<u8, PlanError>
     ensures core { IfOk result (λ n. number_then last words.old ≡ Ok (n, words.new)) }
-    ensures told { IfErr result (Refuses (number_then last words.old)) }
+    ensures error { IfErr result (Refuses (number_then last words.old)) }
 {
     let core = words.number(alloc, "the number of a core", last as u64)?;
     Ok(core.min(255) as u8)
 }
 
 /// Reads `on core N`.
-fn core_said(alloc: Global, laid: &Laid, words: &mut Words<'_>) -> Result<CoreId, Why>
+fn core_said(alloc: Global, laid: &PlanLayout, words: &mut Tokens<'_>) -> Result<CoreId, PlanError>
     ensures core { IfOk result (λ c. core_said (laid_said laid.now) words.old ≡ Ok (c, words.new)) }
-    ensures told { IfErr result (Refuses (core_said (laid_said laid.now) words.old)) }
+    ensures error { IfErr result (Refuses (core_said (laid_said laid.now) words.old)) }
 {
     words.expect(alloc, "on")?;
     words.expect(alloc, "core")?;
@@ -66,13 +66,13 @@ fn core_said(alloc: Global, laid: &Laid, words: &mut Words<'_>) -> Result<CoreId
 /// Reads the core of a step: the one on the line, or the thread's.
 fn read_core(
     alloc: Global,
-    laid: &Laid,
+    laid: &PlanLayout,
     thread: ObjId,
-    words: &mut Words<'_>,
-) -> Result<CoreId, Why>
+    words: &mut Tokens<'_>,
+) -> Result<CoreId, PlanError>
     ensures core { IfOk result
         (λ c. core_read (laid_said laid.now) thread words.old ≡ Ok (c, words.new)) }
-    ensures told { IfErr result (Refuses (core_read (laid_said laid.now) thread words.old)) }
+    ensures error { IfErr result (Refuses (core_read (laid_said laid.now) thread words.old)) }
 {
     if words.peek().is_none() {
         return Ok(laid.plan.core_of(thread));
@@ -81,18 +81,23 @@ fn read_core(
 }
 
 /// The thread of this name.
-pub fn thread_named(alloc: Global, laid: &Laid, name: &str) -> Result<ObjId, Why>
+pub fn thread_named(alloc: Global, laid: &PlanLayout, name: &str) -> Result<ObjId, PlanError>
     ensures thread { IfOk result
         (λ t. named_as kind.Thread name.now laid.now.plan.names ≡ Ok t) }
-    ensures told { IfErr result (Refuses (named_as kind.Thread name.now laid.now.plan.names)) }
+    ensures error { IfErr result (Refuses (named_as kind.Thread name.now laid.now.plan.names)) }
 {
     laid.plan.names.of_kind(alloc, Kind::Thread, name)
 }
 
 /// Reads `NAME` or `NAME on core N`.
-fn step_head(alloc: Global, laid: &Laid, name: &str, words: &mut Words<'_>) -> Result<Head, Why>
+fn step_head(
+    alloc: Global,
+    laid: &PlanLayout,
+    name: &str,
+    words: &mut Tokens<'_>,
+) -> Result<Head, PlanError>
     ensures head { IfOk result (λ h. step_head (laid_said laid.now) name.now words.old ≡ Ok h) }
-    ensures told { IfErr result (Refuses (step_head (laid_said laid.now) name.now words.old)) }
+    ensures error { IfErr result (Refuses (step_head (laid_said laid.now) name.now words.old)) }
 {
     let thread = thread_named(alloc, laid, name)?;
     let core = read_core(alloc, laid, thread, words)?;
@@ -104,9 +109,9 @@ fn step_head(alloc: Global, laid: &Laid, name: &str, words: &mut Words<'_>) -> R
 }
 
 /// Reads `NAME`, which follows `user`.
-fn user_head(alloc: Global, laid: &Laid, words: &mut Words<'_>) -> Result<Head, Why>
+fn user_head(alloc: Global, laid: &PlanLayout, words: &mut Tokens<'_>) -> Result<Head, PlanError>
     ensures head { IfOk result (λ h. user_head (laid_said laid.now) words.old ≡ Ok h) }
-    ensures told { IfErr result (Refuses (user_head (laid_said laid.now) words.old)) }
+    ensures error { IfErr result (Refuses (user_head (laid_said laid.now) words.old)) }
 {
     let name = words.need("the name of a thread")?;
     let thread = thread_named(alloc, laid, name)?;
@@ -114,20 +119,20 @@ fn user_head(alloc: Global, laid: &Laid, words: &mut Words<'_>) -> Result<Head, 
     Ok(Head { thread, core: None })
 }
 
-/// Returns whether a line is that of a user: a name follows `user`.
-fn is_user(first: &str, words: &Words<'_>) -> bool
+/// Returns whether a line gives an entry of a user: its first word is `user`, and a name follows.
+fn is_user(first: &str, words: &Tokens<'_>) -> bool
     ensures { result ≡ is_user first.now words.now }
 {
     first == "user" && words.peek().is_some()
 }
 
 /// Returns what is before the colon: `NAME`, `NAME on core N`, or `user NAME`.
-pub fn read_head(alloc: Global, laid: &Laid, text: &str) -> Result<Head, Why>
+pub fn read_head(alloc: Global, laid: &PlanLayout, text: &str) -> Result<Head, PlanError>
     ensures head { IfOk result (λ h. head_read (laid_said laid.now) (words_of text.now) ≡ Ok h) }
-    ensures told { IfErr result (Refuses (head_read (laid_said laid.now) (words_of text.now))) }
+    ensures error { IfErr result (Refuses (head_read (laid_said laid.now) (words_of text.now))) }
 {
     let all = split_words(alloc, text)?;
-    let mut words = Words::new(&all);
+    let mut words = Tokens::new(&all);
     let first = words.need("the name of a thread")?;
     if is_user(first, &words) {
         return user_head(alloc, laid, &mut words);
@@ -157,13 +162,18 @@ fn head_text(alloc: Global, head: Head) -> Result<String, AllocError>
 }
 
 /// Returns the line of a step, or of a user: the entering thread, and the entry that words spell.
-pub fn write_entry(alloc: Global, laid: &Laid, head: Head, words: &[&str]) -> Result<String, Why>
+pub fn write_entry(
+    alloc: Global,
+    laid: &PlanLayout,
+    head: Head,
+    words: &[&str],
+) -> Result<String, PlanError>
     ensures put { IfOk result
         (λ line. step_read (laid_said laid.now) head (texts words.now) ≡ Ok (string_bytes line)) }
-    ensures told { IfErr result (Refuses (step_read (laid_said laid.now) head (texts words.now))) }
+    ensures error { IfErr result (Refuses (step_read (laid_said laid.now) head (texts words.now))) }
 {
     let mut line = head_text(alloc, head)?;
-    let mut words = Words::new(words);
+    let mut words = Tokens::new(words);
     let speaker = Speaker {
         laid,
         thread: head.thread,

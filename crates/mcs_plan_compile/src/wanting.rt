@@ -8,7 +8,7 @@ ghost use Rattle.mcs_plan_compile.specs.Wanting.{answer_read, asked_more, questi
 
 use crate::entries::{add_number, read_words};
 use crate::steps::object_text;
-use mcs_plan_source::{Names, Why, Words, add_word, not, number};
+use mcs_plan_source::{PlanError, Symbols, Tokens, add_word, not, number};
 use mcs_types::{Kind, ObjId};
 use std::alloc::{AllocError, Global};
 
@@ -86,7 +86,7 @@ fn queue_text(alloc: Global, object: ObjId, end: &str) -> Result<String, AllocEr
 }
 
 /// The queue that a word names: `fs.ep.recv`, `.send` and `.wait`.
-fn queue_named(alloc: Global, names: &Names, word: &str) -> Result<Option<String>, AllocError>
+fn queue_named(alloc: Global, names: &Symbols, word: &str) -> Result<Option<String>, AllocError>
     ensures { IfOk result (λ text. option_map (λ t. string_bytes t) text
         ≡ queue_named names.now (cut_at_dot word.now)) }
 {
@@ -103,7 +103,7 @@ fn queue_named(alloc: Global, names: &Names, word: &str) -> Result<Option<String
 }
 
 /// Returns the object or the queue that a word of a plan names.
-fn subject_of(alloc: Global, names: &Names, word: &str) -> Result<Option<String>, AllocError>
+fn subject_of(alloc: Global, names: &Symbols, word: &str) -> Result<Option<String>, AllocError>
     ensures { IfOk result (λ text. option_map (λ t. string_bytes t) text
         ≡ subject_text names.now word.now) }
 {
@@ -114,10 +114,10 @@ fn subject_of(alloc: Global, names: &Names, word: &str) -> Result<Option<String>
 }
 
 /// Appends the subject of a question. `NoName` if the word names nothing.
-fn add_subject(alloc: Global, names: &Names, to: &mut String, word: &str) -> Result<(), Why>
+fn add_subject(alloc: Global, names: &Symbols, to: &mut String, word: &str) -> Result<(), PlanError>
     ensures put { OnOk result
         (subject_more names.now word.now (string_bytes to.old) ≡ Ok (string_bytes to.new)) }
-    ensures told { IfErr result
+    ensures error { IfErr result
         (Refuses (subject_more names.now word.now (string_bytes to.old))) }
 {
     match subject_of(alloc, names, word)? {
@@ -128,10 +128,10 @@ fn add_subject(alloc: Global, names: &Names, to: &mut String, word: &str) -> Res
 
 /// Appends a word of a question's answer: a name, a number, `-` or `nothing`. `NoName` for any
 /// other word.
-fn add_answer(alloc: Global, names: &Names, to: &mut String, word: &str) -> Result<(), Why>
+fn add_answer(alloc: Global, names: &Symbols, to: &mut String, word: &str) -> Result<(), PlanError>
     ensures put { OnOk result
         (answer_more names.now word.now (string_bytes to.old) ≡ Ok (string_bytes to.new)) }
-    ensures told { IfErr result (Refuses (answer_more names.now word.now (string_bytes to.old))) }
+    ensures error { IfErr result (Refuses (answer_more names.now word.now (string_bytes to.old))) }
 {
     if let Some(n) = number(word) {
         return Ok(add_number(alloc, to, n)?);
@@ -146,13 +146,13 @@ fn add_answer(alloc: Global, names: &Names, to: &mut String, word: &str) -> Resu
 #[tactic(auto, using(crate::proofs::Answered::answer_turn, crate::proofs::Answered::answer_refused, crate::proofs::Answered::no_answers))]
 fn add_answers(
     alloc: Global,
-    names: &Names,
+    names: &Symbols,
     to: &mut String,
-    words: &mut Words<'_>,
-) -> Result<(), Why>
+    words: &mut Tokens<'_>,
+) -> Result<(), PlanError>
     ensures put { OnOk result
         (answers_more names.now words.old (string_bytes to.old) ≡ Ok (string_bytes to.new)) }
-    ensures told { IfErr result
+    ensures error { IfErr result
         (Refuses (answers_more names.now words.old (string_bytes to.old))) }
 {
     for _ in 0..words.len() {
@@ -164,9 +164,9 @@ fn add_answers(
 }
 
 /// Reads an answer, whose words are numbers.
-fn read_answer(alloc: Global, first: &str, words: &mut Words<'_>) -> Result<String, Why>
+fn read_answer(alloc: Global, first: &str, words: &mut Tokens<'_>) -> Result<String, PlanError>
     ensures text { IfOk result (λ t. answer_read first.now words.old ≡ Ok (string_bytes t)) }
-    ensures told { IfErr result (Refuses (answer_read first.now words.old)) }
+    ensures error { IfErr result (Refuses (answer_read first.now words.old)) }
 {
     let mut text = String::from_str(alloc, "= ")?;
     text.push_str(first)?;
@@ -177,13 +177,13 @@ fn read_answer(alloc: Global, first: &str, words: &mut Words<'_>) -> Result<Stri
 /// Appends the word of a question, and those after it.
 fn add_asked(
     alloc: Global,
-    names: &Names,
+    names: &Symbols,
     to: &mut String,
-    words: &mut Words<'_>,
-) -> Result<(), Why>
+    words: &mut Tokens<'_>,
+) -> Result<(), PlanError>
     ensures put { OnOk result
         (asked_more names.now words.old (string_bytes to.old) ≡ Ok (string_bytes to.new)) }
-    ensures told { IfErr result (Refuses (asked_more names.now words.old (string_bytes to.old))) }
+    ensures error { IfErr result (Refuses (asked_more names.now words.old (string_bytes to.old))) }
 {
     let word = words.need("what is asked")?;
     if !is_asked(word) {
@@ -197,13 +197,13 @@ fn add_asked(
 /// numbers.
 fn read_question(
     alloc: Global,
-    names: &Names,
+    names: &Symbols,
     first: &str,
-    words: &mut Words<'_>,
-) -> Result<String, Why>
+    words: &mut Tokens<'_>,
+) -> Result<String, PlanError>
     ensures text { IfOk result
         (λ t. question_read names.now first.now words.old ≡ Ok (string_bytes t)) }
-    ensures told { IfErr result (Refuses (question_read names.now first.now words.old)) }
+    ensures error { IfErr result (Refuses (question_read names.now first.now words.old)) }
 {
     let mut text = String::from_str(alloc, "#?")?;
     add_subject(alloc, names, &mut text, first)?;
@@ -223,9 +223,9 @@ fn is_reason(word: &str) -> bool
 }
 
 /// Reads that the step is skipped, and the reason.
-fn read_away(alloc: Global, words: &mut Words<'_>) -> Result<String, Why>
+fn read_away(alloc: Global, words: &mut Tokens<'_>) -> Result<String, PlanError>
     ensures text { IfOk result (λ t. away_read words.old ≡ Ok (string_bytes t)) }
-    ensures told { IfErr result (Refuses (away_read words.old)) }
+    ensures error { IfErr result (Refuses (away_read words.old)) }
 {
     let mut text = String::from_str(alloc, "#? away")?;
     let Some(reason) = words.next() else {
@@ -241,12 +241,12 @@ fn read_away(alloc: Global, words: &mut Words<'_>) -> Result<String, Why>
 
 /// Returns what follows `?`, as a script has it: an answer, as `got 1 2 17`, a question, as `fs
 /// waits fs.ep.recv`, or `away` with its reason.
-pub fn read_wanted(alloc: Global, names: &Names, words: &[&str]) -> Result<String, Why>
+pub fn read_wanted(alloc: Global, names: &Symbols, words: &[&str]) -> Result<String, PlanError>
     ensures text { IfOk result
         (λ t. wanted_read names.now (texts words.now) ≡ Ok (string_bytes t)) }
-    ensures told { IfErr result (Refuses (wanted_read names.now (texts words.now))) }
+    ensures error { IfErr result (Refuses (wanted_read names.now (texts words.now))) }
 {
-    let mut words = Words::new(words);
+    let mut words = Tokens::new(words);
     let first = words.need("what is wanted")?;
     if first == "away" {
         return read_away(alloc, &mut words);

@@ -12,7 +12,7 @@ use Rattle.mcs_plan_domains.specs.Channels.{HasLine, IsWhole}
 use Rattle.mcs_plan_domains.specs.Lowered.{plain_put}
 use Rattle.mcs_plan_domains.specs.Monitors.{arms_put, bound_put, head_put, idle_put, program_if, program_put, programs_put, tail_put, unbound_put}
 use Rattle.mcs_plan_domains.specs.Pages.{Page, blank, ended, joined, last_put, put}
-use Rattle.mcs_plan_domains.specs.Questions.{behind, question_put, questions_put, word_put, words_asked}
+use Rattle.mcs_plan_domains.specs.Questions.{after_word, question_put, questions_put, word_put, words_asked}
 
 abbrev page : List ℕ → List ℕ → Page
 page text lines = record { text = text; lines = lines }
@@ -20,17 +20,17 @@ page text lines = record { text = text; lines = lines }
 page_same : (t u l m : List ℕ) → t ≡ u → l ≡ m → page t l ≡ page u m
 page_same t u l m a b = ap (λ x. page x l) a ∙ ap (λ x. page u x) b
 
-put_behind : (p q : Page) (t : List ℕ) → put (joined p q) t ≡ joined p (put q t)
+put_after : (p q : Page) (t : List ℕ) → put (joined p q) t ≡ joined p (put q t)
 unfolding put joined
-put_behind p q t = ap (λ x. page x (p.lines ++ q.lines)) (append_assoc p.text q.text t)
+put_after p q t = ap (λ x. page x (p.lines ++ q.lines)) (append_assoc p.text q.text t)
 
-ended_behind : (p q : Page) (n : ℕ) → ended (joined p q) n ≡ joined p (ended q n)
+ended_after : (p q : Page) (n : ℕ) → ended (joined p q) n ≡ joined p (ended q n)
 unfolding ended joined
-ended_behind p q n = page_same _ _ _ _ (append_assoc p.text q.text (10 ∷ [])) (append_assoc p.lines q.lines (n ∷ []))
+ended_after p q n = page_same _ _ _ _ (append_assoc p.text q.text (10 ∷ [])) (append_assoc p.lines q.lines (n ∷ []))
 
-joined_behind : (p q r : Page) → joined (joined p q) r ≡ joined p (joined q r)
+joined_after : (p q r : Page) → joined (joined p q) r ≡ joined p (joined q r)
 unfolding joined
-joined_behind p q r = page_same _ _ _ _ (append_assoc p.text q.text r.text) (append_assoc p.lines q.lines r.lines)
+joined_after p q r = page_same _ _ _ _ (append_assoc p.text q.text r.text) (append_assoc p.lines q.lines r.lines)
 
 joined_blank : (p : Page) → joined p blank ≡ p
 unfolding joined
@@ -58,13 +58,13 @@ pub last_line : (p : Page) (text : List ℕ) (line : ℕ) → IsWhole p → HasL
 last_line p text line whole = record { before = p; after = blank; whole = whole; is = sym (joined_blank (last_put p text line)) }
 
 pub kept_put : (p : Page) (more text : List ℕ) (line : ℕ) → HasLine p text line → HasLine (put p more) text line
-kept_put p more text line h = record { before = h.before; after = put h.after more; whole = h.whole; is = ap (λ q. put q more) h.is ∙ put_behind _ h.after more }
+kept_put p more text line h = record { before = h.before; after = put h.after more; whole = h.whole; is = ap (λ q. put q more) h.is ∙ put_after _ h.after more }
 
 pub kept_ended : (p : Page) (n : ℕ) (text : List ℕ) (line : ℕ) → HasLine p text line → HasLine (ended p n) text line
-kept_ended p n text line h = record { before = h.before; after = ended h.after n; whole = h.whole; is = ap (λ q. ended q n) h.is ∙ ended_behind _ h.after n }
+kept_ended p n text line h = record { before = h.before; after = ended h.after n; whole = h.whole; is = ap (λ q. ended q n) h.is ∙ ended_after _ h.after n }
 
 pub kept_joined : (p more : Page) (text : List ℕ) (line : ℕ) → HasLine p text line → HasLine (joined p more) text line
-kept_joined p more text line h = record { before = h.before; after = joined h.after more; whole = h.whole; is = ap (λ q. joined q more) h.is ∙ joined_behind _ h.after more }
+kept_joined p more text line h = record { before = h.before; after = joined h.after more; whole = h.whole; is = ap (λ q. joined q more) h.is ∙ joined_after _ h.after more }
 
 pub either : (P : Page → Type 0) (b : Bool) (p q : Page) → P p → P q → P (cond b p q)
 either P true p q a b = a
@@ -77,7 +77,7 @@ module _ (text : List ℕ) (line : ℕ) where
 
   kept_words : (p : Page) (b : Before) (ws : List (Bor (List ℕ))) → HasLine p text line → HasLine (words_asked p b ws) text line
   kept_words p b [] h = h
-  kept_words p b (w ∷ ws) h = kept_words (word_put p b w.now) (behind b w.now) ws (kept_put _ w.now text line (kept_put p _ text line h))
+  kept_words p b (w ∷ ws) h = kept_words (word_put p b w.now) (after_word b w.now) ws (kept_put _ w.now text line (kept_put p _ text line h))
 
   pub kept_questions : (p : Page) (qs : List Statement) → HasLine p text line → HasLine (questions_put p qs) text line
   kept_questions p [] h = h

@@ -70,7 +70,8 @@ end_put p s calls line own other =
 abbrev pub channel_put : Page → System → Channel → Page
 channel_put p s c = end_put (end_put p s c.is_called c.line c.first c.second) s false c.line c.second c.first
 
--- how a passive domain tells the monitor of its core that it has begun. The badge is its number
+-- the capability with which a passive domain reports to the monitor of its core that it has begun.
+-- The badge is its number
 abbrev pub begun_put : Page → Domain → Page
 begun_put p d =
     last_put (number_put (put (number_put (has_put p d (codes "microkit.ep") []) d.core) (codes ":w=")) d.number) (codes " as microkit.monitor") d.line

@@ -43,6 +43,6 @@ pub record Leads (p : Page) (s : System) (c : Channel) : Type 0 where
   pub second : HasEnd notify_line p s c.line c.second c.first
   pub calls : c.is_called ≡ true → HasEnd call_line p s c.line c.first c.second
 
--- so it is for each channel of a system
+-- this holds for each channel of a system
 abbrev pub AllLead : Page → System → Type 0
 AllLead p s = All (Leads p s) s.channels.items

@@ -1,13 +1,13 @@
 -- Each channel of a system joins two of its domains.
 use Rattle.std.specs.Prelude.{◌≡◌, ◌≢◌, ◌<◌, ◌++◌, ℕ, zero, suc, Bool, true, false, cond, List, [], ◌∷◌, length, All, Result, Ok, Err}
 use Rattle.mcs_plan_source.specs.declared.fault.PlanFault.{PlanFault}
-use Rattle.mcs_plan_source.specs.declared.fault.Why.{Why}
+use Rattle.mcs_plan_source.specs.declared.fault.PlanError.{PlanError}
 use Rattle.mcs_plan_domains.specs.declared.system.Channel.{Channel}
 use Rattle.mcs_plan_domains.specs.declared.system.Domain.{Domain}
 use Rattle.mcs_plan_domains.specs.declared.system.System.{System}
 
 -- a fault with its line
-abbrev pub with_line : {T : Type 0} → ℕ → Result T Why → Result T PlanFault
+abbrev pub with_line : {T : Type 0} → ℕ → Result T PlanError → Result T PlanFault
 with_line line (Ok value) = Ok value
 with_line line (Err why) = Err (record { line = line; why = why })
 

@@ -16,12 +16,12 @@ is_channel [] = false
 is_channel (b ∷ bs) = nat_le 48 b && nat_le b 57
 
 -- what is before the word that follows this one
-abbrev pub behind_other : Before → List ℕ → Before
-behind_other before.In word = cond (is_event word) before.Event before.Word
-behind_other b word = before.Word
+abbrev pub after_other : Before → List ℕ → Before
+after_other before.In word = cond (is_event word) before.Event before.Word
+after_other b word = before.Word
 
-abbrev pub behind : Before → List ℕ → Before
-behind b word = cond (bytes_eq word (codes "in")) before.In (behind_other b word)
+abbrev pub after_word : Before → List ℕ → Before
+after_word b word = cond (bytes_eq word (codes "in")) before.In (after_other b word)
 
 -- what is put before a word: the number of a handler's channel follows a dot
 abbrev pub between : Before → List ℕ → List ℕ
@@ -34,7 +34,7 @@ word_put p b word = put (put p (between b word)) word
 
 abbrev pub words_asked : Page → Before → List (Bor (List ℕ)) → Page
 words_asked p b [] = p
-words_asked p b (w ∷ ws) = words_asked (word_put p b w.now) (behind b w.now) ws
+words_asked p b (w ∷ ws) = words_asked (word_put p b w.now) (after_word b w.now) ws
 
 abbrev pub question_put : Page → Statement → Page
 question_put p q = ended (words_asked p before.Nothing q.words.items) q.line

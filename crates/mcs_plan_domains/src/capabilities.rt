@@ -167,8 +167,8 @@ fn put_channel(out: &mut Lowered, system: &System<'_>, channel: &Channel) -> Res
     put_end(out, system, false, line, second, first)
 }
 
-/// Appends the capability by which a passive domain tells the monitor of its core that it has
-/// begun, with its number as badge.
+/// Appends the capability with which a passive domain reports to the monitor of its core that it
+/// has begun. Its badge is the number of the domain.
 fn put_begun(out: &mut Lowered, domain: &Domain<'_>) -> Result<(), AllocError>
     ensures { OnOk result (page_of out.new ≡ begun_put (page_of out.old) domain.now) }
 {

@@ -1,7 +1,7 @@
 //! The words of a statement, taken one by one.
 ghost use Rattle.std.specs.Prelude.{◌≤◌, IfOk};
 
-use mcs_plan_source::{Why, not, number};
+use mcs_plan_source::{PlanError, not, number};
 use std::alloc::Global;
 
 /// The words of a statement, and how many of them were taken.
@@ -33,9 +33,9 @@ impl<'a> Cursor<'a> {
     }
 
     /// Takes a word. `Missing` if none is left.
-    pub fn need(&mut self, wanted: &'static str) -> Result<&'a str, Why> {
+    pub fn need(&mut self, wanted: &'static str) -> Result<&'a str, PlanError> {
         let Some(word) = self.peek() else {
-            return Err(Why::Missing { wanted });
+            return Err(PlanError::Missing { wanted });
         };
         self.taken = self.taken.saturating_add(1);
         Ok(word)
@@ -53,7 +53,7 @@ impl<'a> Cursor<'a> {
     }
 
     /// Takes this word. `Missing` if none is left, `Not` for another word.
-    pub fn expect(&mut self, wanted: &'static str) -> Result<(), Why> {
+    pub fn expect(&mut self, wanted: &'static str) -> Result<(), PlanError> {
         let word = self.need(wanted)?;
         if word == wanted {
             Ok(())
@@ -62,8 +62,9 @@ impl<'a> Cursor<'a> {
         }
     }
 
-    /// Takes a number up to a limit. `Missing` if no word is left, `Not` if the word is none.
-    pub fn number(&mut self, wanted: &'static str, limit: u64) -> Result<u64, Why>
+    /// Takes a number up to a limit. `Missing` if no word is left, `Not` if the word is no such
+    /// number.
+    pub fn number(&mut self, wanted: &'static str, limit: u64) -> Result<u64, PlanError>
         ensures { IfOk result (λ n. n ≤ limit) }
     {
         let word = self.need(wanted)?;
@@ -74,10 +75,10 @@ impl<'a> Cursor<'a> {
     }
 
     /// Fails with `TooMany` if a word is left.
-    pub fn end(&self) -> Result<(), Why> {
+    pub fn end(&self) -> Result<(), PlanError> {
         match self.peek() {
             None => Ok(()),
-            Some(word) => Err(Why::TooMany {
+            Some(word) => Err(PlanError::TooMany {
                 word: String::from_str(self.alloc, word)?,
             }),
         }

@@ -1,19 +1,19 @@
 //! Why a domain cannot be lowered.
-use mcs_plan_source::{PlanFault, Why};
+use mcs_plan_source::{PlanError, PlanFault};
 use std::alloc::AllocError;
 
 /// Why a statement is refused, and its line of the plan; line 0 if an allocation failed.
 #[derive(Drop)]
 pub struct Refused {
     pub line: u64,
-    pub why: Why,
+    pub why: PlanError,
 }
 
 impl From<AllocError> for Refused {
     fn from(_error: AllocError) -> Refused {
         Refused {
             line: 0,
-            why: Why::OutOfMemory,
+            why: PlanError::OutOfMemory,
         }
     }
 }
@@ -26,7 +26,7 @@ impl From<Refused> for PlanFault {
 }
 
 /// Returns a fault with its line.
-pub fn at<T: Drop>(line: u64, done: Result<T, Why>) -> Result<T, Refused> {
+pub fn at<T: Drop>(line: u64, done: Result<T, PlanError>) -> Result<T, Refused> {
     match done {
         Ok(value) => Ok(value),
         Err(why) => Err(Refused { line, why }),

@@ -4,11 +4,11 @@ use crate::cursor::Cursor;
 use crate::ends::End;
 use crate::inputs::{Input, put_receive, put_reply, put_send_receive};
 use crate::lowered::Lowered;
-use crate::reading::told;
+use crate::reading::program_error;
 use crate::statements::Statement;
 use crate::system::{Channel, Domain, Event, System};
 use crate::words::has;
-use mcs_plan_source::{Shown, Why, not};
+use mcs_plan_source::{PlanError, Shown, not};
 use std::alloc::{AllocError, Global};
 
 /// An open block of a handler.
@@ -62,10 +62,10 @@ fn is_loop(statement: &Statement<'_>) -> bool {
     begins(statement, "forever") || begins(statement, "while") || begins(statement, "repeat")
 }
 
-/// Returns the fault of a word that may not be there.
-fn misplaced(alloc: Global, word: &str, why: &'static str) -> Why {
+/// Returns the fault for a word that is not allowed in its place.
+fn misplaced(alloc: Global, word: &str, why: &'static str) -> PlanError {
     let shown = Shown { text: word };
-    told(format!(in alloc; "{shown} {why}"))
+    program_error(format!(in alloc; "{shown} {why}"))
 }
 
 impl<'s, 'a> Lowerer<'s, 'a> {
@@ -124,7 +124,7 @@ impl<'s, 'a> Lowerer<'s, 'a> {
     }
 
     /// Begins the statements of a handler.
-    pub fn begin(&mut self, event: Event) -> Result<(), Why> {
+    pub fn begin(&mut self, event: Event) -> Result<(), PlanError> {
         self.event = event;
         self.blocks.clear();
         self.blocks.push(HANDLER)?;
@@ -209,7 +209,7 @@ impl<'s, 'a> Lowerer<'s, 'a> {
     }
 
     /// Returns the channel with a number. Fails if the domain has none.
-    fn channel(&self, end: End) -> Result<Channel, Why> {
+    fn channel(&self, end: End) -> Result<Channel, PlanError> {
         match self.system.channel(end) {
             Some(channel) => Ok(channel),
             None => Err(self.no_channel(end.channel)),
@@ -217,25 +217,25 @@ impl<'s, 'a> Lowerer<'s, 'a> {
     }
 
     /// Returns the fault of a missing channel.
-    fn no_channel(&self, number: u64) -> Why {
+    fn no_channel(&self, number: u64) -> PlanError {
         let shown = Shown {
             text: self.domain.name,
         };
-        told(format!(in self.alloc; "{shown} has no channel {number}"))
+        program_error(format!(in self.alloc; "{shown} has no channel {number}"))
     }
 
     /// Returns the fault of a channel over which the domain may call nothing.
-    fn no_procedures(&self, number: u64) -> Why {
+    fn no_procedures(&self, number: u64) -> PlanError {
         let shown = Shown {
             text: self.domain.name,
         };
-        told(format!(in self.alloc;
+        program_error(format!(in self.alloc;
             "{shown} has no protected procedures to call over channel {number}"
         ))
     }
 
     /// Reads the number of a channel that the domain has.
-    fn need_channel(&self, words: &mut Cursor<'_>) -> Result<(End, Channel), Why> {
+    fn need_channel(&self, words: &mut Cursor<'_>) -> Result<(End, Channel), PlanError> {
         let channel = words.number("a channel, from 0 to 62", CHANNEL_MAX)?;
         let own = End {
             domain: self.place,
@@ -264,7 +264,7 @@ impl<'s, 'a> Lowerer<'s, 'a> {
         line: u64,
         label: Option<&str>,
         words: &mut Cursor<'_>,
-    ) -> Result<(), Why> {
+    ) -> Result<(), PlanError> {
         let (own, _channel) = self.need_channel(words)?;
         words.end()?;
         self.put_entry(out, label, "signal notify.", own.channel)?;
@@ -278,7 +278,7 @@ impl<'s, 'a> Lowerer<'s, 'a> {
         line: u64,
         label: Option<&str>,
         words: &mut Cursor<'_>,
-    ) -> Result<(), Why> {
+    ) -> Result<(), PlanError> {
         let (own, channel) = self.need_channel(words)?;
         if !channel.is_called || channel.first != own {
             return Err(self.no_procedures(own.channel));
@@ -294,7 +294,7 @@ impl<'s, 'a> Lowerer<'s, 'a> {
         out: &mut Lowered,
         line: u64,
         words: &mut Cursor<'_>,
-    ) -> Result<(), Why> {
+    ) -> Result<(), PlanError> {
         words.expect("notify")?;
         let (own, _channel) = self.need_channel(words)?;
         words.end()?;
@@ -309,7 +309,7 @@ impl<'s, 'a> Lowerer<'s, 'a> {
         line: u64,
         words: &[&str],
         is_last: bool,
-    ) -> Result<(), Why> {
+    ) -> Result<(), PlanError> {
         if !answers(self.event) {
             return Err(misplaced(self.alloc, "reply", "stands in no protected handler"));
         }
@@ -333,7 +333,7 @@ impl<'s, 'a> Lowerer<'s, 'a> {
         out: &mut Lowered,
         statement: &Statement<'a>,
         is_last: bool,
-    ) -> Result<(), Why> {
+    ) -> Result<(), PlanError> {
         let first = statement.first();
         let label = if is_label(first) { Some(first) } else { None };
         let mut words = Cursor::new(self.alloc, &statement.words, usize::from(label.is_some()));
@@ -348,7 +348,7 @@ impl<'s, 'a> Lowerer<'s, 'a> {
         label: Option<&str>,
         words: &mut Cursor<'_>,
         is_last: bool,
-    ) -> Result<(), Why> {
+    ) -> Result<(), PlanError> {
         let keyword = words.need("a statement")?;
         self.note_end(is_ending(keyword));
         if keyword == "notify" {
@@ -368,7 +368,7 @@ impl<'s, 'a> Lowerer<'s, 'a> {
         keyword: &str,
         label: Option<&str>,
         is_last: bool,
-    ) -> Result<(), Why> {
+    ) -> Result<(), PlanError> {
         if keyword != "deferred" && keyword != "reply" {
             return self.put_kept_words(out, statement, keyword);
         }
@@ -382,14 +382,14 @@ impl<'s, 'a> Lowerer<'s, 'a> {
         self.put_answer(out, statement.line, words.rest(), is_last)
     }
 
-    /// Puts a statement that begins with this word as it is. A fault where it leaves a loop, and is
-    /// in none.
+    /// Puts a statement that begins with this word as it is. Fails if the statement leaves a loop
+    /// but is in none.
     fn put_kept_words(
         &self,
         out: &mut Lowered,
         statement: &Statement<'_>,
         keyword: &str,
-    ) -> Result<(), Why> {
+    ) -> Result<(), PlanError> {
         let leaves = keyword == "break" || keyword == "continue";
         if leaves && !self.is_in_loop() {
             return Err(misplaced(self.alloc, keyword, "stands in no loop of its handler"));
@@ -403,7 +403,7 @@ impl<'s, 'a> Lowerer<'s, 'a> {
         out: &mut Lowered,
         statement: &Statement<'a>,
         is_last: bool,
-    ) -> Result<(), Why> {
+    ) -> Result<(), PlanError> {
         if statement.opens() || statement.closes() {
             return Ok(self.put_block(out, statement)?);
         }

@@ -6,7 +6,7 @@ ghost use Rattle.mcs_plan_domains.specs.Pages.{page_of};
 
 use crate::lowered::Lowered;
 use crate::words::{has, is};
-use mcs_plan_source::{PlanFault, STARTER, Why, split_comment, split_words};
+use mcs_plan_source::{PlanError, PlanFault, STARTER, split_comment, split_words};
 use std::alloc::{AllocError, Global};
 
 /// A passive thread, which receives on an endpoint with a reply object.
@@ -141,7 +141,8 @@ impl<'a> Threads<'a> {
         None
     }
 
-    /// Returns the line of the first passive thread, if some thread is a user.
+    /// Returns the line of the first passive thread. None if no thread is a user, or none is
+    /// passive.
     fn first_passive(&self) -> Option<u64> {
         if self.users.is_empty() {
             return None;
@@ -158,7 +159,8 @@ impl<'a> Threads<'a> {
     }
 }
 
-/// Puts the name of the notification by which a passive thread tells that it has begun to receive.
+/// Puts the name of the notification with which a passive thread signals that it has begun to
+/// receive.
 fn put_ready(out: &mut Lowered, passive: &Passive<'_>) -> Result<(), AllocError> {
     out.put(STARTER)?;
     out.counted(".ready", (passive.place as u64).saturating_add(1))
@@ -344,7 +346,7 @@ fn put_line(out: &mut Lowered, threads: &Threads<'_>, line: &Line<'_>) -> Result
 
 /// Appends the first line of a program, and after it the first entry of the thread if it is
 /// passive.
-fn put_behind(out: &mut Lowered, threads: &Threads<'_>, line: &Line<'_>) -> Result<(), AllocError> {
+fn put_after(out: &mut Lowered, threads: &Threads<'_>, line: &Line<'_>) -> Result<(), AllocError> {
     if !is_program(&line.words) {
         return Ok(());
     }
@@ -392,14 +394,14 @@ fn put_front(
     Ok(())
 }
 
-/// Puts a line, and the first entry of a passive thread behind it if its program begins there.
+/// Puts a line, and after it the first entry of a passive thread if its program begins there.
 fn put_with_entry(
     out: &mut Lowered,
     threads: &Threads<'_>,
     line: &Line<'_>,
 ) -> Result<(), AllocError> {
     put_line(out, threads, line)?;
-    put_behind(out, threads, line)
+    put_after(out, threads, line)
 }
 
 /// Puts all lines of a plan.
@@ -517,7 +519,7 @@ pub fn lower_passives(
         Ok(lowered) => Ok(lowered),
         Err(AllocError) => Err(PlanFault {
             line: 0,
-            why: Why::OutOfMemory,
+            why: PlanError::OutOfMemory,
         }),
     }
 }

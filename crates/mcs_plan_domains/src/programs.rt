@@ -94,7 +94,7 @@ impl<'s, 'a> Lowerer<'s, 'a> {
         out.line(line, self.depth, text)
     }
 
-    /// Puts where a block begins, in which what follows stands.
+    /// Puts the line that opens a block; the following lines are in it.
     fn put_open(&mut self, out: &mut Lowered, line: u64, text: &str) -> Result<(), AllocError> {
         out.line(line, self.depth, text)?;
         self.depth = self.depth.saturating_add(1);
@@ -128,7 +128,7 @@ impl<'s, 'a> Lowerer<'s, 'a> {
         Ok(self.put_close(out, line, "}")?)
     }
 
-    /// Puts what stands in the block of a handler.
+    /// Puts the contents of the block of a handler.
     fn put_body(&mut self, out: &mut Lowered, handler: &'s Handler<'a>) -> Result<(), Refused> {
         self.put_statements(out, handler)?;
         Ok(self.put_last_reply(out, handler)?)
@@ -204,8 +204,8 @@ impl<'s, 'a> Lowerer<'s, 'a> {
         self.put_send_receive(out, line, "notify.", Some(number))
     }
 
-    /// Puts the first entry that receives. A passive domain tells the monitor with it that it has
-    /// begun, and a notification that it deferred before is lost, as in libmicrokit.
+    /// Puts the first entry that receives. A passive domain also reports to the monitor with it
+    /// that it has begun. A notification that it deferred before is lost, as in libmicrokit.
     fn put_first(&mut self, out: &mut Lowered) -> Result<(), AllocError> {
         let line = self.domain.line;
         if !self.domain.is_passive {
@@ -283,7 +283,7 @@ impl<'s, 'a> Lowerer<'s, 'a> {
         out.last(line, " {")
     }
 
-    /// Puts the arm of a handler of notifications.
+    /// Puts the arm in which the handler of notifications runs.
     fn put_notified_arm(
         &mut self,
         out: &mut Lowered,

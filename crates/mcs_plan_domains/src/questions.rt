@@ -1,7 +1,7 @@
 //! Questions in the words of Microkit: `in protected 1` is in the block `protected.1`.
 ghost use Rattle.std.specs.Prelude.{◌≡◌, OnOk};
 ghost use Rattle.mcs_plan_domains.specs.Pages.{page_of};
-ghost use Rattle.mcs_plan_domains.specs.Questions.{behind, between, is_channel, is_event, question_put, questions_put, word_put, words_asked};
+ghost use Rattle.mcs_plan_domains.specs.Questions.{after_word, between, is_channel, is_event, question_put, questions_put, word_put, words_asked};
 ghost use Rattle.mcs_plan_domains.specs.declared.questions.Before.TheVariants as stands;
 
 use crate::lowered::Lowered;
@@ -37,8 +37,8 @@ fn is_channel(word: &str) -> bool
 }
 
 /// Returns what precedes the word after this one.
-fn behind(before: Before, word: &str) -> Before
-    ensures { result ≡ behind before word.now }
+fn after_word(before: Before, word: &str) -> Before
+    ensures { result ≡ after_word before word.now }
 {
     if word == "in" {
         return Before::In;
@@ -81,7 +81,7 @@ fn put_words(out: &mut Lowered, words: &[&str]) -> Result<(), AllocError>
     let mut before = Before::Nothing;
     for word in words {
         put_word(out, before, word)?;
-        before = behind(before, word);
+        before = after_word(before, word);
     }
     Ok(())
 }

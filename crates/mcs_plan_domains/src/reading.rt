@@ -8,7 +8,7 @@ use crate::ends::End;
 use crate::statements::{Statement, statements_of};
 use crate::system::{Channel, Domain, Event, Handler, Plain, System};
 use mcs_plan_source::{
-    PlanFault, Shown, Why, add_word, is_name, not, number, split_comment, split_words,
+    PlanError, PlanFault, Shown, add_word, is_name, not, number, split_comment, split_words,
 };
 use std::alloc::{AllocError, Global};
 
@@ -41,18 +41,18 @@ struct Reader<'a> {
 }
 
 /// Returns the fault with this text; OutOfMemory if the text could not be allocated.
-pub fn told(text: Result<String, AllocError>) -> Why {
+pub fn program_error(text: Result<String, AllocError>) -> PlanError {
     match text {
-        Ok(told) => Why::Program { told },
-        Err(AllocError) => Why::OutOfMemory,
+        Ok(message) => PlanError::Program { message },
+        Err(AllocError) => PlanError::OutOfMemory,
     }
 }
 
 /// Returns the fault of a name that exists already.
-fn twice(alloc: Global, word: &str) -> Why {
+fn twice(alloc: Global, word: &str) -> PlanError {
     match String::from_str(alloc, word) {
-        Ok(word) => Why::Twice { word },
-        Err(AllocError) => Why::OutOfMemory,
+        Ok(word) => PlanError::Twice { word },
+        Err(AllocError) => PlanError::OutOfMemory,
     }
 }
 
@@ -80,7 +80,7 @@ fn is_system(word: &str) -> bool {
 }
 
 /// Reads when a handler runs.
-fn read_event(alloc: Global, first: &str, words: &mut Cursor<'_>) -> Result<Event, Why> {
+fn read_event(alloc: Global, first: &str, words: &mut Cursor<'_>) -> Result<Event, PlanError> {
     if first == "init" {
         return Ok(Event::Init);
     }
@@ -97,25 +97,25 @@ fn read_event(alloc: Global, first: &str, words: &mut Cursor<'_>) -> Result<Even
 }
 
 /// Reads the `{` at the end of a statement.
-fn read_opening(words: &mut Cursor<'_>) -> Result<(), Why> {
+fn read_opening(words: &mut Cursor<'_>) -> Result<(), PlanError> {
     words.expect("{")?;
     words.end()
 }
 
 /// Reads when a handler runs, and what opens it.
-fn read_handler(alloc: Global, first: &str, words: &mut Cursor<'_>) -> Result<Event, Why> {
+fn read_handler(alloc: Global, first: &str, words: &mut Cursor<'_>) -> Result<Event, PlanError> {
     let event = read_event(alloc, first, words)?;
     read_opening(words)?;
     Ok(event)
 }
 
 /// Returns when a handler runs that this statement begins.
-fn event_of(alloc: Global, statement: &Statement<'_>) -> Result<Event, Why> {
+fn event_of(alloc: Global, statement: &Statement<'_>) -> Result<Event, PlanError> {
     let mut words = Cursor::new(alloc, &statement.words, 1);
     read_handler(alloc, statement.first(), &mut words)
 }
 
-/// What the line of a domain says behind its name.
+/// What the line of a domain says after its name.
 #[derive(Clone, Copy)]
 struct Parts {
     priority: u64,
@@ -124,7 +124,7 @@ struct Parts {
 }
 
 /// Reads `on core N`, if the line says it.
-fn read_core(words: &mut Cursor<'_>) -> Result<u64, Why> {
+fn read_core(words: &mut Cursor<'_>) -> Result<u64, PlanError> {
     if !words.takes("on") {
         return Ok(0);
     }
@@ -132,8 +132,8 @@ fn read_core(words: &mut Cursor<'_>) -> Result<u64, Why> {
     words.number("a core, from 0 to 15", CORE_MAX)
 }
 
-/// Reads the parts of a domain behind its name: `prio P`, `on core N`, `passive`.
-fn read_parts(words: &mut Cursor<'_>) -> Result<Parts, Why> {
+/// Reads the parts of a domain after its name: `prio P`, `on core N`, `passive`.
+fn read_parts(words: &mut Cursor<'_>) -> Result<Parts, PlanError> {
     words.expect("prio")?;
     let priority = words.number("a priority, from 0 to 254", PRIORITY_MAX)?;
     let core = read_core(words)?;
@@ -144,17 +144,17 @@ fn read_parts(words: &mut Cursor<'_>) -> Result<Parts, Why> {
     })
 }
 
-/// Reads what the line of a domain says behind its name.
-fn read_behind(words: &mut Cursor<'_>) -> Result<Parts, Why> {
+/// Reads what the line of a domain says after its name.
+fn read_after(words: &mut Cursor<'_>) -> Result<Parts, PlanError> {
     let parts = read_parts(words)?;
     read_opening(words)?;
     Ok(parts)
 }
 
 /// Reads the name of a domain.
-fn read_name<'a>(alloc: Global, statement: &Statement<'a>) -> Result<&'a str, Why> {
+fn read_name<'a>(alloc: Global, statement: &Statement<'a>) -> Result<&'a str, PlanError> {
     let Some(name) = statement.words.get(1) else {
-        return Err(Why::Missing {
+        return Err(PlanError::Missing {
             wanted: "the name of a domain",
         });
     };
@@ -173,10 +173,10 @@ fn read_domain<'a>(
     alloc: Global,
     statement: &Statement<'a>,
     number: u64,
-) -> Result<Domain<'a>, Why> {
+) -> Result<Domain<'a>, PlanError> {
     let name = read_name(alloc, statement)?;
     let mut words = Cursor::new(alloc, &statement.words, 2);
-    let parts = read_behind(&mut words)?;
+    let parts = read_after(&mut words)?;
     Ok(Domain {
         name,
         line: statement.line,
@@ -238,8 +238,8 @@ impl<'a> System<'a> {
     }
 
     /// Returns the fault of a name that no domain has.
-    fn no_domain(&self, alloc: Global, name: &str) -> Result<Why, AllocError> {
-        Ok(Why::NoName {
+    fn no_domain(&self, alloc: Global, name: &str) -> Result<PlanError, AllocError> {
+        Ok(PlanError::NoName {
             word: String::from_str(alloc, name)?,
             wanted: "a domain",
             there: self.names(alloc)?,
@@ -247,7 +247,7 @@ impl<'a> System<'a> {
     }
 
     /// Reads an end of a channel. `Twice` if another channel has it.
-    fn end_of(&self, alloc: Global, word: &str) -> Result<End, Why>
+    fn end_of(&self, alloc: Global, word: &str) -> Result<End, PlanError>
         ensures { IfOk result (λ e. e.domain < length self.now.domains.items) }
     {
         let Some((name, digits)) = word.rsplit_once('.') else {
@@ -278,14 +278,19 @@ impl<'a> System<'a> {
     }
 
     /// Adds a channel between two ends.
-    fn add_channel(&mut self, alloc: Global, channel: Channel, second: &str) -> Result<(), Why>
+    fn add_channel(
+        &mut self,
+        alloc: Global,
+        channel: Channel,
+        second: &str,
+    ) -> Result<(), PlanError>
         ensures { OnOk result (AddsChannel self.old channel self.new) }
     {
         if channel.first == channel.second {
             return Err(twice(alloc, second));
         }
         if channel.first.domain == channel.second.domain {
-            return Err(told(String::from_str(alloc, "a channel joins two domains")));
+            return Err(program_error(String::from_str(alloc, "a channel joins two domains")));
         }
         self.channels.push(channel)?;
         if channel.is_called {
@@ -306,7 +311,11 @@ impl<'a> System<'a> {
     }
 
     /// Reads an end of a channel, the next word.
-    fn read_end<'w>(&self, alloc: Global, words: &mut Cursor<'w>) -> Result<(End, &'w str), Why>
+    fn read_end<'w>(
+        &self,
+        alloc: Global,
+        words: &mut Cursor<'w>,
+    ) -> Result<(End, &'w str), PlanError>
         ensures { IfOk result (λ e. e.0.domain < length self.now.domains.items) }
     {
         let word = words.need(END)?;
@@ -321,7 +330,7 @@ impl<'a> System<'a> {
         words: &mut Cursor<'_>,
         (first, second): (End, End),
         word: &str,
-    ) -> Result<bool, Why> {
+    ) -> Result<bool, PlanError> {
         if !words.takes("pp") {
             return Ok(false);
         }
@@ -339,7 +348,7 @@ impl<'a> System<'a> {
         alloc: Global,
         line: u64,
         words: &mut Cursor<'w>,
-    ) -> Result<(Channel, &'w str), Why>
+    ) -> Result<(Channel, &'w str), PlanError>
         ensures { IfOk result (λ c. HasEnds self.now c.0) }
     {
         let (first, _word) = self.read_end(alloc, words)?;
@@ -357,7 +366,7 @@ impl<'a> System<'a> {
 
     /// Reads a line of a channel: `channel client.1 server.1 pp`.
     #[tactic(auto, using(crate::proofs::Joins::adds_more))]
-    fn read_channel(&mut self, alloc: Global, statement: &Statement<'a>) -> Result<(), Why>
+    fn read_channel(&mut self, alloc: Global, statement: &Statement<'a>) -> Result<(), PlanError>
         ensures { OnOk result (JoinsMore self.old self.new) }
     {
         let mut words = Cursor::new(alloc, &statement.words, 1);
@@ -379,7 +388,7 @@ impl<'a> System<'a> {
 }
 
 /// Takes `any priority`, if these words are next, and returns whether they were.
-fn is_any(words: &mut Cursor<'_>) -> Result<bool, Why> {
+fn is_any(words: &mut Cursor<'_>) -> Result<bool, PlanError> {
     if !words.takes("any") {
         return Ok(false);
     }
@@ -388,23 +397,23 @@ fn is_any(words: &mut Cursor<'_>) -> Result<bool, Why> {
 }
 
 /// Returns the fault of a call to a domain without higher priority.
-fn no_higher(alloc: Global, word: &str) -> Why {
+fn no_higher(alloc: Global, word: &str) -> PlanError {
     let shown = Shown { text: word };
-    told(format!(in alloc;
+    program_error(format!(in alloc;
         "{shown} is called by a domain of no lower priority; `pp any priority` allows that"
     ))
 }
 
 impl<'a> Reader<'a> {
     /// Reads a line.
-    fn read_line(&mut self, line: u64, text: &'a str) -> Result<(), Why> {
+    fn read_line(&mut self, line: u64, text: &'a str) -> Result<(), PlanError> {
         let (code, _comment) = split_comment(text);
         let words = split_words(self.alloc, code)?;
         self.read_words(Plain { line, text }, &words)
     }
 
     /// Reads a line of these words.
-    fn read_words(&mut self, plain: Plain<'a>, words: &[&'a str]) -> Result<(), Why> {
+    fn read_words(&mut self, plain: Plain<'a>, words: &[&'a str]) -> Result<(), PlanError> {
         if self.is_plain(words) {
             return Ok(self.system.add_plain(self.alloc, plain, words)?);
         }
@@ -412,7 +421,7 @@ impl<'a> Reader<'a> {
     }
 
     /// Takes statements of a system.
-    fn take_all(&mut self, statements: Vec<Statement<'a>>) -> Result<(), Why> {
+    fn take_all(&mut self, statements: Vec<Statement<'a>>) -> Result<(), PlanError> {
         for statement in statements {
             self.take(statement)?;
         }
@@ -428,7 +437,7 @@ impl<'a> Reader<'a> {
     }
 
     /// Takes a statement of a system.
-    fn take(&mut self, statement: Statement<'a>) -> Result<(), Why> {
+    fn take(&mut self, statement: Statement<'a>) -> Result<(), PlanError> {
         match self.open {
             Open::Plan => self.take_outside(statement),
             Open::Domain => self.take_part(statement),
@@ -437,7 +446,7 @@ impl<'a> Reader<'a> {
     }
 
     /// Takes a statement outside of domains.
-    fn take_outside(&mut self, statement: Statement<'a>) -> Result<(), Why> {
+    fn take_outside(&mut self, statement: Statement<'a>) -> Result<(), PlanError> {
         if statement.first() == "channel" {
             self.channels.push(statement)?;
             return Ok(());
@@ -446,7 +455,7 @@ impl<'a> Reader<'a> {
     }
 
     /// Takes the statement that begins a domain.
-    fn begin_domain(&mut self, statement: &Statement<'a>) -> Result<(), Why> {
+    fn begin_domain(&mut self, statement: &Statement<'a>) -> Result<(), PlanError> {
         let first = statement.first();
         if first != "pd" {
             return Err(not(self.alloc, first, "pd or channel"));
@@ -462,7 +471,7 @@ impl<'a> Reader<'a> {
     }
 
     /// Takes a statement of a domain outside of handlers.
-    fn take_part(&mut self, statement: Statement<'a>) -> Result<(), Why> {
+    fn take_part(&mut self, statement: Statement<'a>) -> Result<(), PlanError> {
         if statement.closes() {
             return self.close(&statement, Open::Plan);
         }
@@ -472,8 +481,8 @@ impl<'a> Reader<'a> {
         self.begin_handler(&statement)
     }
 
-    /// Takes the statement that closes what is open, behind which this is open.
-    fn close(&mut self, statement: &Statement<'a>, open: Open) -> Result<(), Why> {
+    /// Takes the statement that closes the innermost block. `open` is what is open after it.
+    fn close(&mut self, statement: &Statement<'a>, open: Open) -> Result<(), PlanError> {
         Cursor::new(self.alloc, &statement.words, 1).end()?;
         self.open = open;
         Ok(())
@@ -488,7 +497,7 @@ impl<'a> Reader<'a> {
     }
 
     /// Takes the statement that begins a handler.
-    fn begin_handler(&mut self, statement: &Statement<'a>) -> Result<(), Why> {
+    fn begin_handler(&mut self, statement: &Statement<'a>) -> Result<(), PlanError> {
         let Some(domain) = self.system.domains.last_mut() else {
             return Ok(());
         };
@@ -506,7 +515,7 @@ impl<'a> Reader<'a> {
     }
 
     /// Takes a statement of a handler in which this many blocks are open.
-    fn take_inside(&mut self, statement: Statement<'a>, blocks: usize) -> Result<(), Why> {
+    fn take_inside(&mut self, statement: Statement<'a>, blocks: usize) -> Result<(), PlanError> {
         if statement.closes() && blocks == 0 {
             return self.close(&statement, Open::Domain);
         }
@@ -553,13 +562,13 @@ impl<'a> Reader<'a> {
         };
         PlanFault {
             line: opened,
-            why: Why::Unclosed { opened },
+            why: PlanError::Unclosed { opened },
         }
     }
 }
 
 /// Returns a fault with its line.
-fn at<T: Drop>(line: u64, done: Result<T, Why>) -> Result<T, PlanFault>
+fn at<T: Drop>(line: u64, done: Result<T, PlanError>) -> Result<T, PlanFault>
     ensures { result ≡ with_line line done }
 {
     match done {

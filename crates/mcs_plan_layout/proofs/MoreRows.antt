@@ -17,8 +17,8 @@ pub row_more : (table : List Named) (n : Named) → rows_of (table ++ n ∷ []) 
 row_more table n = map-append row_of table (n ∷ [])
 
 -- a row, and those after it
-pub behind_one : (old mid new behind : List Row) (row : Row) → mid ≡ old ++ row ∷ [] → new ≡ mid ++ behind → new ≡ old ++ row ∷ behind
-behind_one old mid new behind row one more = more ∙ ap (λ rows. rows ++ behind) one ∙ append_assoc old (row ∷ []) behind
+pub after_one : (old mid new after : List Row) (row : Row) → mid ≡ old ++ row ∷ [] → new ≡ mid ++ after → new ≡ old ++ row ∷ after
+after_one old mid new after row one more = more ∙ ap (λ rows. rows ++ after) one ∙ append_assoc old (row ∷ []) after
 
 -- the first row that is a word
 find_row : (word : List ℕ) (table : List Named) → find (λ row. bytes_eq row.name word) (rows_of table) ≡ option_map row_of (find (is_row word) table)

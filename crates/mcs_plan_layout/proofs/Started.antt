@@ -29,18 +29,18 @@ starter_added old mid new names space starter context started named thread own h
     same_space = held ∙ (λ k. space_started (named k) (thread k))
 
 -- its names after the first, and after the second
-pub behind_own : (names own : NameList) → name_more kind.Thread own_name names ≡ Ok own
+pub after_own : (names own : NameList) → name_more kind.Thread own_name names ≡ Ok own
     → names_started names ≡ (name_more kind.Context context_name own >>= λ two. name_more kind.CNode space_name two)
-behind_own names own e =
+after_own names own e =
     ap (λ (r : Read NameList). r >>= (λ (a : NameList). name_more kind.Context context_name a >>= (λ (b : NameList). name_more kind.CNode space_name b))) e
 
-pub behind_two : (names own two : NameList) → name_more kind.Thread own_name names ≡ Ok own → name_more kind.Context context_name own ≡ Ok two
+pub after_two : (names own two : NameList) → name_more kind.Thread own_name names ≡ Ok own → name_more kind.Context context_name own ≡ Ok two
     → names_started names ≡ name_more kind.CNode space_name two
-behind_two names own two e f = behind_own names own e ∙ ap (λ (r : Read NameList). r >>= (λ (b : NameList). name_more kind.CNode space_name b)) f
+after_two names own two e f = after_own names own e ∙ ap (λ (r : Read NameList). r >>= (λ (b : NameList). name_more kind.CNode space_name b)) f
 
 pub no_two : (names own : NameList) (e : Refusal) → name_more kind.Thread own_name names ≡ Ok own → name_more kind.Context context_name own ≡ Err e
     → names_started names ≡ Err e
-no_two names own e is none = behind_own names own is ∙ ap (λ (r : Read NameList). r >>= (λ (b : NameList). name_more kind.CNode space_name b)) none
+no_two names own e is none = after_own names own is ∙ ap (λ (r : Read NameList). r >>= (λ (b : NameList). name_more kind.CNode space_name b)) none
 
 -- a slot of this name, as the map has it
 pub put_held : {A : Type 0} (entries : List (String A × Slot)) (name : String A) (slot : Slot)

@@ -16,20 +16,20 @@ use Rattle.mcs_cspace.specs.Levels.{level_at}
 use Rattle.mcs_cspace.proofs.Numbering.{different}
 use Rattle.mcs_cspace.proofs.Walking.{step-ends, step-on}
 use Rattle.mcs_plan_layout.specs.declared.layout.Layout.{Layout}
-use Rattle.mcs_plan_layout.specs.SpaceLayouts.{bits_behind, IsLaidOut, zero_guard}
-use Rattle.mcs_plan_layout.specs.Holding.{IsRoot, IsInRoot, IsBehind, Stands, Holds, IsAddressOf}
+use Rattle.mcs_plan_layout.specs.SpaceLayouts.{index_bits, IsLaidOut, zero_guard}
+use Rattle.mcs_plan_layout.specs.Holding.{IsRoot, IsInRoot, IsInLeaf, Stands, Holds, IsAddressOf}
 
 -- a level whose guard is met
 pub level-met : (guard : Guard) (r n a m : ℕ) → n ≡ guard.bits + (r + m) → a / 2 ^ (r + m) % 2 ^ guard.bits ≡ guard.value % 2 ^ guard.bits
     → level_at guard r n a ≡ Ok (record { index = a / 2 ^ m % 2 ^ r; left = m })
 unfolding level_at
 level-met guard r n a m whole met =
-    let behind : n - guard.bits ≡ r + m = omega (arith, whole) in
+    let after : n - guard.bits ≡ r + m = omega (arith, whole) in
     let left : n - guard.bits - r ≡ m = omega (arith, whole) in
     let fits : nat_le guard.bits n ≡ true = grind (arith, common_steps, whole) in
-    let long : nat_le r (n - guard.bits) ≡ true = grind (arith, common_steps, behind) in
+    let long : nat_le r (n - guard.bits) ≡ true = grind (arith, common_steps, after) in
     let test : (a / 2 ^ (n - guard.bits) % 2 ^ guard.bits == guard.value % 2 ^ guard.bits) ≡ true =
-    ap (λ k. a / 2 ^ k % 2 ^ guard.bits == guard.value % 2 ^ guard.bits) behind ∙ eq-eqb _ _ met in
+    ap (λ k. a / 2 ^ k % 2 ^ guard.bits == guard.value % 2 ^ guard.bits) after ∙ eq-eqb _ _ met in
     λ i. cond (fits i) (cond (test i) (cond (long i) (Ok (record { index = a / 2 ^ (left i) % 2 ^ r; left = left i })) (Err DepthMismatch)) (Err GuardMismatch)) (Err GuardMismatch)
 
 -- a number below a power, in front of others, is below the power of both
@@ -125,10 +125,10 @@ in-root S root cap r w slot fits guarded radix hs there last =
     (ap (λ o. cond (w == 0) None (cnode_cap o)) there ∙ ends-none w (Some cap) last)) there
 
 -- the law, for a larger space
-behind-root : (S : Space) (root next cap : Cap) (r w slot : ℕ) → r + (8 + w) ≤ 64 → root.guard ≡ zero_guard (64 - (r + (8 + w))) → S.radix root.obj ≡ r → slot < 2 ^ (r + 8)
+leaf-root : (S : Space) (root next cap : Cap) (r w slot : ℕ) → r + (8 + w) ≤ 64 → root.guard ≡ zero_guard (64 - (r + (8 + w))) → S.radix root.obj ≡ r → slot < 2 ^ (r + 8)
     → cnode_cap (S.slot root.obj (slot / 2 ^ 8)) ≡ Some next → next.guard ≡ zero_guard 0 → S.radix next.obj ≡ 8
     → S.slot next.obj (slot % 2 ^ 8) ≡ Some cap → (w ≡ 0) ⊎ (cnode_cap (Some cap) ≡ None) → capability_from S root (slot * 2 ^ w + 0) ≡ Ok cap
-behind-root S root next cap r w slot fits guarded radix hs to_next unguarded leaf there last =
+leaf-root S root next cap r w slot fits guarded radix hs to_next unguarded leaf there last =
     found S root cap a w (slot % 2 ^ 8) next.obj (first ∙ second) there
   where
     a : ℕ
@@ -158,15 +158,15 @@ own_is_named l slot laid hs S root cap h =
   where
     go : Stands S root l slot h.cnode h.index → capability_from S root (slot * 2 ^ l.within + 0) ≡ Ok cap
     go (inl one) =
-        let bits : bits_behind l ≡ l.root + l.within = omega (arith, one.alone) in
+        let bits : index_bits l ≡ l.root + l.within = omega (arith, one.alone) in
         let own : l.root + l.leaf ≡ l.root = omega (arith, one.alone) in
         in-root S root cap l.root l.within slot (omega (arith, laid.root, laid.within))
         (h.of_root.guard ∙ ap (λ k. zero_guard (64 - k)) bits) h.of_root.radix (subst (λ k. slot < 2 ^ k) own hs)
         ((λ i. S.slot (sym one.cnode i) (sym one.index i)) ∙ h.there) h.last
     go (inr two) =
-        let bits : bits_behind l ≡ l.root + (8 + l.within) = omega (arith, two.behind) in
-        let own : l.root + l.leaf ≡ l.root + 8 = omega (arith, two.behind) in
-        behind-root S root two.next cap l.root l.within slot (omega (arith, laid.root, laid.within))
+        let bits : index_bits l ≡ l.root + (8 + l.within) = omega (arith, two.has_leaf) in
+        let own : l.root + l.leaf ≡ l.root + 8 = omega (arith, two.has_leaf) in
+        leaf-root S root two.next cap l.root l.within slot (omega (arith, laid.root, laid.within))
         (h.of_root.guard ∙ ap (λ k. zero_guard (64 - k)) bits) h.of_root.radix (subst (λ k. slot < 2 ^ k) own hs)
         two.there two.unguarded two.radix
         ((λ i. S.slot (sym two.cnode i) (sym two.index i)) ∙ h.there) h.last

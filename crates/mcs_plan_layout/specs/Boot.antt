@@ -19,7 +19,7 @@ use Rattle.mcs_plan_source.specs.declared.plan.Tie.{Tie}
 use Rattle.mcs_plan_source.specs.Making.{all_leaves}
 use Rattle.mcs_plan_source.specs.Slots.{slot_count, cap_at, leaves_of}
 use Rattle.mcs_plan_layout.specs.declared.layout.Layout.{Layout}
-use Rattle.mcs_plan_layout.specs.SpaceLayouts.{bits_behind, zero_guard}
+use Rattle.mcs_plan_layout.specs.SpaceLayouts.{index_bits, zero_guard}
 use Rattle.mcs_plan_layout.specs.declared.boot.Site.{Site}
 
 -- the CNode at a place, from 0: those of the spaces come first, and after them the further ones of
@@ -58,7 +58,7 @@ context_line core = line.Context core
 
 abbrev pub thread_line : List Layout → Thread → BootLine
 thread_line layouts t =
-    line.Thread t.priority t.maximum (cnode_at t.space) (zero_guard (64 - bits_behind (layout_at layouts t.space))) t.runs t.context
+    line.Thread t.priority t.maximum (cnode_at t.space) (zero_guard (64 - index_bits (layout_at layouts t.space))) t.runs t.context
 
 abbrev pub tie_line : Tie → BootLine
 tie_line t = line.Tie t.thread t.notification

@@ -4,7 +4,7 @@ use Rattle.mcs_types.specs.declared.id.ObjId.{ObjId}
 use Rattle.mcs_types.specs.declared.id.Kind.TheVariants as kind
 use Rattle.mcs_types.specs.Ids.{place_of}
 use Rattle.mcs_plan_source.specs.Saying.{Said, said}
-use Rattle.mcs_plan_layout.specs.declared.laid.Laid.{Laid}
+use Rattle.mcs_plan_layout.specs.declared.laid.PlanLayout.{PlanLayout}
 use Rattle.mcs_plan_layout.specs.Layouts.{layouts_of}
 use Rattle.mcs_plan_layout.specs.Tables.{Row, table_rows, tables_of}
 
@@ -14,7 +14,7 @@ pub record LaidPlan : Type 0 where
   pub tables : List (List Row)
 
 -- a plan that is laid out, as it is kept
-abbrev pub laid_said : Laid → LaidPlan
+abbrev pub laid_said : PlanLayout → LaidPlan
 laid_said laid = record { plan = said laid.plan; tables = table_rows laid.tables.items }
 
 -- a plan that is laid out
@@ -22,7 +22,7 @@ abbrev pub laid_of : Said → LaidPlan
 laid_of s = record { plan = s; tables = tables_of s }
 
 -- the layouts and the tables that are kept are those of the plan
-pub record IsLaid (laid : Laid) : Type 0 where
+pub record IsLaid (laid : PlanLayout) : Type 0 where
   pub layouts : laid.layouts.items ≡ layouts_of (said laid.plan).spaces
   pub tables : table_rows laid.tables.items ≡ tables_of (said laid.plan)
 

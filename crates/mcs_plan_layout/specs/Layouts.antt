@@ -28,13 +28,13 @@ abbrev pub own_bits : SaidSpace → ℕ
 own_bits space = (own_layout space).root + (own_layout space).leaf
 
 -- the space whose root is a CNode
-abbrev pub space_behind : List SaidSpace → ObjId → Option SaidSpace
-space_behind spaces cnode = option_and_then (λ place. slice_get spaces place) (place_of kind.CNode cnode)
+abbrev pub space_of_cnode : List SaidSpace → ObjId → Option SaidSpace
+space_of_cnode spaces cnode = option_and_then (λ place. slice_get spaces place) (place_of kind.CNode cnode)
 
 -- how many bits name a slot of the CNode that a slot holds a capability to
 abbrev pub bits_held : List SaidSpace → Option Cap → ℕ
 bits_held spaces None = 0
-bits_held spaces (Some cap) = unwrap_or (option_map own_bits (space_behind spaces cap.obj)) 0
+bits_held spaces (Some cap) = unwrap_or (option_map own_bits (space_of_cnode spaces cap.obj)) 0
 
 abbrev pub bits_at : List SaidSpace → Option (List ℕ × Option Cap) → ℕ
 bits_at spaces None = 0

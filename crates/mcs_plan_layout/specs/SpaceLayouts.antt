@@ -5,8 +5,8 @@ use Rattle.mcs_plan_layout.specs.declared.layout.Layout.{Layout}
 use Rattle.mcs_plan_layout.specs.declared.layout.TheConstants.{LEAF}
 
 -- how many bits of an address follow the guard
-abbrev pub bits_behind : Layout → ℕ
-bits_behind l = l.root + l.leaf + l.within
+abbrev pub index_bits : Layout → ℕ
+index_bits l = l.root + l.leaf + l.within
 
 -- the radix of the root, of the CNodes in it, and the bits within, are in their ranges
 pub record IsLaidOut (l : Layout) : Type 0 where

@@ -8,7 +8,7 @@ use Rattle.mcs_plan_source.specs.declared.fault.PlanFault.{PlanFault}
 use Rattle.mcs_plan_source.specs.Naming.{ByName, NameList, name_of, next_of}
 use Rattle.mcs_plan_source.specs.declared.plan.Thread.{Thread}
 use Rattle.mcs_plan_source.specs.Objects.{may_name}
-use Rattle.mcs_plan_source.specs.Refusals.{Read, ◌>>=◌, ◌>>◌, told_by}
+use Rattle.mcs_plan_source.specs.Refusals.{Read, ◌>>=◌, ◌>>◌, refusal_by}
 use Rattle.mcs_plan_source.specs.Saying.{Said, SaidSpace, SaidPassive, with_name, with_thread}
 use Rattle.mcs_plan_source.specs.Threads.{thread_at}
 use Rattle.mcs_plan_layout.specs.SpaceLayouts.{zero_guard}
@@ -116,4 +116,4 @@ first_line (p ∷ ps) = Some p.line
 -- the first passive one; that memory was refused says nothing of it
 abbrev pub RefusesStarter : Said → PlanFault → Type 0
 RefusesStarter old fault =
-    ForSome (told_by fault.why) (λ e. (first_line old.passives ≡ Some fault.line) × (names_started old.names ≡ Err e))
+    ForSome (refusal_by fault.why) (λ e. (first_line old.passives ≡ Some fault.line) × (names_started old.names ≡ Err e))

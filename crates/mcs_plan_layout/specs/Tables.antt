@@ -90,15 +90,15 @@ abbrev pub rows_at : List Layout → List SaidSpace → List ℕ → ℕ → Opt
 rows_at layouts spaces outer first None = []
 rows_at layouts spaces outer first (Some place) = inner_rows layouts outer first place (slice_get spaces place)
 
-abbrev pub rows_behind : List Layout → List SaidSpace → List ℕ → ℕ → Option Cap → List Row
-rows_behind layouts spaces outer first None = []
-rows_behind layouts spaces outer first (Some cap) = rows_at layouts spaces outer first (place_of kind.CNode cap.obj)
+abbrev pub rows_inside : List Layout → List SaidSpace → List ℕ → ℕ → Option Cap → List Row
+rows_inside layouts spaces outer first None = []
+rows_inside layouts spaces outer first (Some cap) = rows_at layouts spaces outer first (place_of kind.CNode cap.obj)
 
 -- the row of a slot, and those after it, where the space has it
 abbrev pub own_rows : List Layout → List SaidSpace → ℕ → ℕ → List ℕ → Option Cap → List Row
 own_rows layouts spaces space index name cap =
     if has_slot (layout_at layouts space) index then
-    own_row layouts space index name cap ∷ rows_behind layouts spaces name (address_in (layout_at layouts space) index) cap
+    own_row layouts space index name cap ∷ rows_inside layouts spaces name (address_in (layout_at layouts space) index) cap
     else []
 
 -- the table of a space: each slot in order

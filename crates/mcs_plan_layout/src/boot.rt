@@ -15,9 +15,9 @@ ghost use Rattle.mcs_plan_layout.specs.Boot.{slot_lines, link_lines, space_lines
 
 use crate::LEAF;
 use crate::fitting::fits;
-use crate::laid::Laid;
+use crate::laid::PlanLayout;
 use crate::starter::bare;
-use mcs_plan_source::{Space, Thread, Why};
+use mcs_plan_source::{PlanError, Space, Thread};
 use mcs_types::{BootLine, Cap, Guard, Kind, ObjId};
 use std::alloc::{AllocError, Global};
 
@@ -101,7 +101,7 @@ fn add_links(to: &mut Vec<BootLine>, site: Site) -> Result<(), AllocError>
     Ok(())
 }
 
-impl Laid {
+impl PlanLayout {
     /// Returns the capability of a slot; one to a CNode gets the guard that takes the bits which
     /// its slots do not use.
     pub fn guarded(&self, space: usize, cap: &Cap) -> Cap
@@ -142,8 +142,8 @@ impl Laid {
         line: &BootLine,
     ) -> Result<(), AllocError>
         requires { count_of kind self.now.plan.names ≤ limit_of kind }
-        ensures { OnOk result
-            (to.new.items ≡ to.old.items ++ replicate (count_of kind self.now.plan.names) line.now) }
+        ensures { OnOk result (to.new.items
+            ≡ to.old.items ++ replicate (count_of kind self.now.plan.names) line.now) }
     {
         add_times(to, line, self.plan.names.count(kind))
     }
@@ -165,7 +165,7 @@ impl Laid {
         ensures { result ≡ thread_line self.now.layouts.items thread.now }
     {
         let layout = self.layout(thread.space);
-        let behind = layout
+        let after = layout
             .root
             .saturating_add(layout.leaf)
             .saturating_add(layout.within);
@@ -174,7 +174,7 @@ impl Laid {
             maximum: thread.maximum,
             root: cnode(thread.space),
             guard: Guard {
-                bits: 64u8.saturating_sub(behind),
+                bits: 64u8.saturating_sub(after),
                 value: 0,
             },
             runs: thread.runs,
@@ -312,10 +312,10 @@ impl Laid {
 
     /// Returns the lines of the boot after that of its cores. `Limit` if it makes more of a kind
     /// than a machine may have.
-    pub fn boot_lines(&self, alloc: Global) -> Result<Vec<BootLine>, Why>
+    pub fn boot_lines(&self, alloc: Global) -> Result<Vec<BootLine>, PlanError>
         ensures made { IfOk result (λ ls. ls.items ≡ boot_of self.now.plan self.now.layouts.items) }
         ensures fits { OnOk result (boot_fits (said self.now.plan) ≡ Ok tt) }
-        ensures told { IfErr result (Refuses (boot_fits (said self.now.plan))) }
+        ensures error { IfErr result (Refuses (boot_fits (said self.now.plan))) }
     {
         fits(&self.plan)?;
         Ok(self.lines(alloc)?)

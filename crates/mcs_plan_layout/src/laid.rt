@@ -11,16 +11,16 @@ ghost use Rattle.mcs_plan_source.specs.Saying.{said, said_space};
 
 use crate::Layout;
 use crate::layouts::layouts_of;
-use crate::spaces::{has_slot, space_at, space_behind};
+use crate::spaces::{has_slot, space_at, space_of_cnode};
 use crate::starter::add_starter;
 use crate::tables::Named;
-use mcs_plan_source::{Plan, PlanFault, Space, Why, not};
+use mcs_plan_source::{Plan, PlanError, PlanFault, Space, not};
 use mcs_types::{Cap, CoreId, Kind, ObjId};
 use std::alloc::{AllocError, Global};
 
 /// A plan with its spaces laid out, and the table of names of each thread.
 #[derive(Drop)]
-pub struct Laid {
+pub struct PlanLayout {
     pub plan: Plan,
     pub layouts: Vec<Layout>,
     pub tables: Vec<Vec<Named>>,
@@ -40,7 +40,7 @@ fn first_passive(plan: &Plan) -> Option<u64>
 /// Returns a plan with the thread `starter`, if it has passive threads.
 fn started(alloc: Global, plan: Plan) -> Result<Plan, PlanFault>
     ensures started { IfOk result (λ new. IsStarted (said plan) (said new)) }
-    ensures told { IfErr result (RefusesStarter (said plan)) }
+    ensures error { IfErr result (RefusesStarter (said plan)) }
 {
     let Some(line) = first_passive(&plan) else {
         return Ok(plan);
@@ -106,24 +106,24 @@ fn cap_in(space: &Space, name: &str) -> Option<Cap>
 }
 
 /// Returns the fault of a name that no slot of a space has.
-fn no_slot(alloc: Global, space: &Space, holder: &str, name: &str) -> Result<Why, AllocError>
+fn no_slot(alloc: Global, space: &Space, holder: &str, name: &str) -> Result<PlanError, AllocError>
     ensures { IfOk result (Tells (no_capability holder.now name.now)) }
 {
-    Ok(Why::NoCapability {
+    Ok(PlanError::NoCapability {
         holder: String::from_str(alloc, holder)?,
         word: String::from_str(alloc, name)?,
         there: space.listed(alloc)?,
     })
 }
 
-impl Laid {
+impl PlanLayout {
     /// Returns a plan, with `starter` if it needs it, with layouts and tables.
-    fn with_layouts(alloc: Global, plan: Plan) -> Result<Laid, AllocError>
+    fn with_layouts(alloc: Global, plan: Plan) -> Result<PlanLayout, AllocError>
         ensures plan { IfOk result (λ laid. laid.plan ≡ plan) }
         ensures laid { IfOk result IsLaid }
     {
         let layouts = layouts_of(alloc, &plan.spaces)?;
-        let mut laid = Laid {
+        let mut laid = PlanLayout {
             plan,
             layouts,
             tables: Vec::new(alloc),
@@ -134,17 +134,17 @@ impl Laid {
 
     /// Lays out the spaces of a plan. `Twice` at the line of the first passive thread if `starter`
     /// is a name already.
-    pub fn new(alloc: Global, plan: Plan) -> Result<Laid, PlanFault>
+    pub fn new(alloc: Global, plan: Plan) -> Result<PlanLayout, PlanFault>
         ensures plan { IfOk result (λ laid. IsStarted (said plan) (said laid.plan)) }
         ensures laid { IfOk result IsLaid }
-        ensures told { IfErr result (RefusesStarter (said plan)) }
+        ensures error { IfErr result (RefusesStarter (said plan)) }
     {
         let plan = started(alloc, plan)?;
-        match Laid::with_layouts(alloc, plan) {
+        match PlanLayout::with_layouts(alloc, plan) {
             Ok(laid) => Ok(laid),
             Err(AllocError) => Err(PlanFault {
                 line: 0,
-                why: Why::OutOfMemory,
+                why: PlanError::OutOfMemory,
             }),
         }
     }
@@ -180,12 +180,12 @@ impl Laid {
     }
 
     /// Returns the row of a thread for a word. `NoCapability` or `Not` if it has none.
-    pub fn named(&self, alloc: Global, thread: ObjId, word: &str) -> Result<&Named, Why>
+    pub fn named(&self, alloc: Global, thread: ObjId, word: &str) -> Result<&Named, PlanError>
         ensures found { IfOk result
             (λ n. named_by self.now.tables.items thread word.now ≡ Some n.now) }
         ensures read { IfOk result
             (λ n. named_read (laid_said self.now) thread word.now ≡ Ok (row_of n.now)) }
-        ensures told { IfErr result (Refuses (named_read (laid_said self.now) thread word.now)) }
+        ensures error { IfErr result (Refuses (named_read (laid_said self.now) thread word.now)) }
     {
         match self.find(thread, word) {
             Some(named) => Ok(named),
@@ -194,7 +194,7 @@ impl Laid {
     }
 
     /// Returns the fault of a word that names nothing.
-    fn unnamed(&self, alloc: Global, thread: ObjId, word: &str) -> Result<Why, AllocError>
+    fn unnamed(&self, alloc: Global, thread: ObjId, word: &str) -> Result<PlanError, AllocError>
         ensures { IfOk result (Tells (unnamed (said self.now.plan) thread word.now)) }
     {
         let Some(space) = space_at(&self.plan.spaces, self.plan.space_of(thread)) else {
@@ -219,7 +219,7 @@ impl Laid {
         space: &Space,
         outer: &str,
         name: &str,
-    ) -> Result<Why, AllocError>
+    ) -> Result<PlanError, AllocError>
         ensures { IfOk result (Tells (no_inner self.now.plan.names outer.now name.now
             (cnode_held (said self.now.plan).spaces (said_space space.now) outer.now))) }
     {
@@ -235,7 +235,7 @@ impl Laid {
             ≡ cnode_held (said self.now.plan).spaces (said_space space.now) name.now }
     {
         let cap = cap_in(space, name)?;
-        let held = space_behind(&self.plan.spaces, cap.obj)?;
+        let held = space_of_cnode(&self.plan.spaces, cap.obj)?;
         Some((cap.obj, held))
     }
 }

@@ -1,6 +1,6 @@
 //! The layout of a space (manual: Capability Spaces).
 ghost use Rattle.std.specs.Prelude.{◌≡◌, ◌<◌, ◌≤◌, ◌+◌, ◌-◌, ◌*◌, ◌^◌, ◌↔◌, IsSome, IfSome, true};
-ghost use Rattle.mcs_plan_layout.specs.SpaceLayouts.{bits_behind, bits_for, has_slot, layout_of_radix, layout_of_slots, IsLaidOut, zero_guard};
+ghost use Rattle.mcs_plan_layout.specs.SpaceLayouts.{index_bits, bits_for, has_slot, layout_of_radix, layout_of_slots, IsLaidOut, zero_guard};
 ghost use Rattle.mcs_plan_layout.specs.Holding.{IsAddressOf};
 
 use mcs_types::{Guard, Place};
@@ -99,7 +99,7 @@ impl Layout {
     /// Returns the guard of its root: zeros in all bits before the index.
     pub fn guard(&self) -> Guard
         requires { IsLaidOut self.now }
-        ensures { result ≡ zero_guard (64 - bits_behind self.now) }
+        ensures { result ≡ zero_guard (64 - index_bits self.now) }
     {
         Guard {
             bits: 64 - self.root - self.leaf - self.within,

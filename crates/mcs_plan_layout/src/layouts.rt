@@ -4,7 +4,7 @@ ghost use Rattle.mcs_plan_source.specs.Saying.{said_space};
 ghost use Rattle.mcs_plan_layout.specs.Layouts.{own_layout, own_bits, bits_held, bits_at, bits_within, layout_among, layouts_of};
 
 use crate::Layout;
-use crate::spaces::{slot_at, slot_count, space_behind};
+use crate::spaces::{slot_at, slot_count, space_of_cnode};
 use mcs_plan_source::Space;
 use mcs_types::Cap;
 use std::alloc::{AllocError, Global};
@@ -37,7 +37,7 @@ fn bits_held(spaces: &[Space], cap: Option<Cap>) -> u8
     let Some(cap) = cap else {
         return 0;
     };
-    match space_behind(spaces, cap.obj) {
+    match space_of_cnode(spaces, cap.obj) {
         Some(space) => own_bits(space),
         None => 0,
     }

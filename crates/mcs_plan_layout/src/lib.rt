@@ -27,6 +27,6 @@ mod spaces;
 mod starter;
 mod tables;
 
-pub use laid::Laid;
+pub use laid::PlanLayout;
 pub use layout::{LEAF, Layout};
 pub use tables::Named;

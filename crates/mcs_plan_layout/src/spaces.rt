@@ -2,7 +2,7 @@
 ghost use Rattle.std.specs.Prelude.{◌≡◌, ◌<◌, ◌^◌, length, map, slice_get, is_some, option_map, option_and_then};
 ghost use Rattle.mcs_plan_source.specs.Naming.{find};
 ghost use Rattle.mcs_plan_source.specs.Saying.{said_space};
-ghost use Rattle.mcs_plan_layout.specs.Layouts.{space_behind};
+ghost use Rattle.mcs_plan_layout.specs.Layouts.{space_of_cnode};
 
 use mcs_plan_source::{Slot, Space};
 use mcs_types::{Kind, ObjId};
@@ -44,9 +44,9 @@ pub fn space_at(spaces: &[Space], place: usize) -> Option<&Space>
 }
 
 /// Returns the space whose root is a CNode.
-pub fn space_behind(spaces: &[Space], cnode: ObjId) -> Option<&Space>
+pub fn space_of_cnode(spaces: &[Space], cnode: ObjId) -> Option<&Space>
     ensures { option_map (λ s. said_space s.now) result
-        ≡ space_behind (map said_space spaces.now) cnode }
+        ≡ space_of_cnode (map said_space spaces.now) cnode }
 {
     space_at(spaces, cnode.place(Kind::CNode)?)
 }

@@ -1,6 +1,6 @@
 //! `starter`, the thread that makes others passive.
 ghost use Rattle.std.specs.Prelude.{◌≡◌, Some, None, Ok, IfOk, IfErr, OnOk};
-ghost use Rattle.mcs_plan_source.specs.declared.fault.Why.TheVariants as why;
+ghost use Rattle.mcs_plan_source.specs.declared.fault.PlanError.TheVariants as why;
 ghost use Rattle.mcs_plan_source.specs.Naming.{next_of};
 ghost use Rattle.mcs_types.specs.declared.id.Kind.TheVariants as kind;
 ghost use Rattle.mcs_plan_source.specs.Refusals.{Refuses};
@@ -9,7 +9,7 @@ ghost use Rattle.mcs_plan_layout.specs.Boot.{bare};
 ghost use Rattle.mcs_plan_layout.specs.Starting.{name_more, names_started, own_context, with_held, with_context_of, space_started, starter_with, with_parts, AddsStarter};
 
 use indexmap::IndexMap;
-use mcs_plan_source::{Names, Plan, STARTER, Slot, Space, Thread, Why};
+use mcs_plan_source::{Plan, PlanError, STARTER, Slot, Space, Symbols, Thread};
 use mcs_types::{Badge, Cap, CoreId, Guard, Kind, ObjId, Prio, Rights};
 use std::alloc::{AllocError, Global};
 
@@ -63,9 +63,9 @@ fn add_context(
 
 /// Returns the space of `starter`: the contexts of all passive threads, and itself.
 #[tactic(auto, using(crate::proofs::Started::context_more, crate::proofs::Started::no_slots))]
-fn space_of(alloc: Global, plan: &Plan, starter: ObjId) -> Result<Space, Why>
+fn space_of(alloc: Global, plan: &Plan, starter: ObjId) -> Result<Space, PlanError>
     ensures space { IfOk result (λ s. said_space s ≡ space_started (said plan.now) starter) }
-    ensures told { IfErr result (λ w. w ≡ why.OutOfMemory) }
+    ensures error { IfErr result (λ w. w ≡ why.OutOfMemory) }
 {
     let mut space = Space::new(alloc, None);
     for passive in &plan.passives {
@@ -76,21 +76,21 @@ fn space_of(alloc: Global, plan: &Plan, starter: ObjId) -> Result<Space, Why>
 }
 
 /// Gives an object its name.
-fn add_name(alloc: Global, names: &mut Names, kind: Kind, name: &str) -> Result<ObjId, Why>
+fn add_name(alloc: Global, names: &mut Symbols, kind: Kind, name: &str) -> Result<ObjId, PlanError>
     ensures object { IfOk result (λ o. o ≡ next_of kind names.old) }
     ensures added { OnOk result (name_more kind name.now names.old ≡ Ok names.new) }
     ensures names { OnOk result (names.new ≡ with_name kind name.now names.old) }
-    ensures told { IfErr result (Refuses (name_more kind name.now names.old)) }
+    ensures error { IfErr result (Refuses (name_more kind name.now names.old)) }
 {
     names.add(alloc, kind, name)
 }
 
 /// Names the starter and its context, and returns both. `Twice` if one of the names exists already.
-fn add_names(alloc: Global, names: &mut Names) -> Result<(ObjId, ObjId), Why>
+fn add_names(alloc: Global, names: &mut Symbols) -> Result<(ObjId, ObjId), PlanError>
     ensures added { OnOk result (names_started names.old ≡ Ok names.new) }
     ensures thread { IfOk result (λ o. o.0 ≡ next_of kind.Thread names.old) }
     ensures context { IfOk result (λ o. o.1 ≡ own_context names.old) }
-    ensures told { IfErr result (Refuses (names_started names.old)) }
+    ensures error { IfErr result (Refuses (names_started names.old)) }
 {
     let thread = add_name(alloc, names, Kind::Thread, STARTER)?;
     let context = add_name(alloc, names, Kind::Context, CONTEXT)?;
@@ -118,9 +118,9 @@ fn put(plan: &mut Plan, space: Space, context: ObjId) -> Result<(), AllocError>
 }
 
 /// Adds the starter. `Twice` if one of its names exists already.
-pub fn add_starter(alloc: Global, plan: &mut Plan) -> Result<(), Why>
+pub fn add_starter(alloc: Global, plan: &mut Plan) -> Result<(), PlanError>
     ensures added { OnOk result (AddsStarter (said plan.old) (said plan.new)) }
-    ensures told { IfErr result (Refuses (names_started plan.old.names)) }
+    ensures error { IfErr result (Refuses (names_started plan.old.names)) }
 {
     let (thread, context) = add_names(alloc, &mut plan.names)?;
     let space = space_of(alloc, plan, thread)?;

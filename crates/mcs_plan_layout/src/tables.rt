@@ -3,10 +3,10 @@ ghost use Rattle.std.specs.Prelude.{◌≡◌, ◌<◌, ◌+◌, ◌++◌, ◌�
 ghost use Rattle.mcs_plan_source.specs.Saying.{said, said_space};
 ghost use Rattle.mcs_plan_layout.specs.SpaceLayouts.{IsLaidOut};
 ghost use Rattle.mcs_plan_layout.specs.Tables.{row_of, rows_of, table_rows, row_at, held_then, address_in, naming_address, path_of, inner_row, inner_slot, inner_rows};
-ghost use Rattle.mcs_plan_layout.specs.Tables.{rows_behind, own_rows, table_of, tables_by};
+ghost use Rattle.mcs_plan_layout.specs.Tables.{rows_inside, own_rows, table_of, tables_by};
 
 use crate::Layout;
-use crate::laid::Laid;
+use crate::laid::PlanLayout;
 use crate::spaces::{slot_at, slot_count, space_at};
 use mcs_plan_source::{Slot, Space};
 use mcs_types::{Cap, Kind, Place};
@@ -76,7 +76,7 @@ fn push(to: &mut Vec<Named>, named: Named) -> Result<(), AllocError>
     Ok(())
 }
 
-impl Laid {
+impl PlanLayout {
     /// Returns the capability that a slot of a space holds after the boot, with its guard if it is
     /// to a CNode; None for an empty slot.
     fn held(&self, space: usize, slot: &Slot) -> Option<Cap>
@@ -157,7 +157,7 @@ impl Laid {
     }
 
     /// Adds the rows below a slot: those of the CNode to which it holds a capability.
-    fn add_behind(
+    fn add_rows_inside(
         &self,
         alloc: Global,
         to: &mut Vec<Named>,
@@ -166,7 +166,7 @@ impl Laid {
         cap: Option<Cap>,
     ) -> Result<(), AllocError>
         requires { first < 2 ^ 63 }
-        ensures { OnOk result (rows_of to.new.items ≡ rows_of to.old.items ++ rows_behind
+        ensures { OnOk result (rows_of to.new.items ≡ rows_of to.old.items ++ rows_inside
             self.now.layouts.items (said self.now.plan).spaces outer.now first cap) }
     {
         let Some(cap) = cap else {
@@ -187,7 +187,7 @@ impl Laid {
     }
 
     /// Adds the row of the slot at an index, from 0, of the space at an index, and those below it.
-    #[tactic(auto, using(crate::proofs::MoreRows::behind_one))]
+    #[tactic(auto, using(crate::proofs::MoreRows::after_one))]
     fn add_own(
         &self,
         alloc: Global,
@@ -218,7 +218,7 @@ impl Laid {
             place: layout.place(number),
         };
         push(to, own)?;
-        self.add_behind(alloc, to, name, address, slot.cap)
+        self.add_rows_inside(alloc, to, name, address, slot.cap)
     }
 
     /// Returns the table of names of a thread with this space.

@@ -5,7 +5,7 @@ use Rattle.std.proofs.lemmas.Bool.{false≢true}
 use Rattle.std.proofs.lemmas.Str.{IsCharBoundary-before_ascii, IsCharBoundary-end}
 use Rattle.std.proofs.lemmas.Str.Pattern.{strip_prefix_char}
 use Rattle.std.specs.Str.Pattern.{FindsCharPrefix}
-use Rattle.mcs_plan_source.specs.Cutting.{is_white, code_len, behind_first}
+use Rattle.mcs_plan_source.specs.Cutting.{is_white, code_len, without_first}
 
 -- the comment's `#`, and what follows it
 abbrev Stops : ℕ → List ℕ → Type 0
@@ -32,10 +32,10 @@ stops begins (b ∷ bs) = go (stops (is_white b) bs) (begins && b == 35) refl
     at t = Stops (cond t 0 (1 + code_len (is_white b) bs)) (b ∷ bs)
 
     go : Stops (code_len (is_white b) bs) bs → (t : Bool) → begins && b == 35 ≡ t → at (begins && b == 35)
-    go behind true e =
+    go following true e =
         let hash : b ≡ 35 = byte_is begins b e in
         subst at (sym e) (inr (bs, omega arith, hash, ap (λ c. c ∷ bs) hash))
-    go behind false e = subst at (sym e) (later (code_len (is_white b) bs) b bs behind)
+    go following false e = subst at (sym e) (later (code_len (is_white b) bs) b bs following)
 
 -- a line may be cut there
 pub cut_before : (line : List ℕ) → IsCharBoundary line (code_len true line)
@@ -48,11 +48,11 @@ cut_before line = go (code_len true line) (stops true line)
 -- what is left when the `#` is taken off
 pub comment_is : (line rest : List ℕ) (r : Option (Bor (List ℕ))) → rest ≡ drop (code_len true line) line
     → MatchOption r (FindsCharPrefix 35 rest None) (λ x. (n : ℕ) × FindsCharPrefix 35 rest (Some n) × (x.now ≡ drop n rest) × (length x.now + n ≡ length rest))
-    → option_map (λ c. c.now) r ≡ behind_first (drop (code_len true line) line)
+    → option_map (λ c. c.now) r ≡ without_first (drop (code_len true line) line)
 comment_is line rest r e strips = go r (strip_prefix_char 35 rest r strips (omega arith)) (stops true line)
   where
-    go : (o : Option (Bor (List ℕ))) → MatchOption o ((behind : List ℕ) → rest ≢ 35 ∷ behind) (λ x. rest ≡ 35 ∷ x.now) → Stops (code_len true line) line
-        → option_map (λ c. c.now) o ≡ behind_first (drop (code_len true line) line)
-    go None fails (inl h) = ap behind_first (sym h.1)
+    go : (o : Option (Bor (List ℕ))) → MatchOption o ((following : List ℕ) → rest ≢ 35 ∷ following) (λ x. rest ≡ 35 ∷ x.now) → Stops (code_len true line) line
+        → option_map (λ c. c.now) o ≡ without_first (drop (code_len true line) line)
+    go None fails (inl h) = ap without_first (sym h.1)
     go None fails (inr h) = absurd (fails h.0 (e ∙ h.3))
-    go (Some x) is _ = ap behind_first (sym is ∙ e)
+    go (Some x) is _ = ap without_first (sym is ∙ e)

@@ -55,8 +55,8 @@ piece w x rest live (Some q) found cut =
     let low : c < 128 = is_ascii c found.1.1 in
     let ends : q.1 ≡ q.0 + 1 = found.1.2.ends ∙ ap (λ n. q.0 + n) (len_utf8_ascii c low) in
     let parts = cut (omega (arith, ends)) in
-    let behind : drop q.0 w ≡ c ∷ drop q.1 w = found.1.2.split ∙ ap (λ v. v ++ drop q.1 w) (encode_ascii c low) in
-    let whole : w ≡ take q.0 w ++ c ∷ drop q.1 w = sym (take-append-drop q.0 w) ∙ ap (λ v. take q.0 w ++ v) behind in
+    let following : drop q.0 w ≡ c ∷ drop q.1 w = found.1.2.split ∙ ap (λ v. v ++ drop q.1 w) (encode_ascii c low) in
+    let whole : w ≡ take q.0 w ++ c ∷ drop q.1 w = sym (take-append-drop q.0 w) ∙ ap (λ v. take q.0 w ++ v) following in
     ap (slice_split is_white) whole ∙ slice_split_at is_white (take q.0 w) c (drop q.1 w) (no_white (take q.0 w) found.0) found.1.1
     ∙ (λ k. sym parts.0 k ∷ cond (sym parts.1 k) (slice_split is_white (sym parts.2 k)) [])
 

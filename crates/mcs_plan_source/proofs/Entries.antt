@@ -1,4 +1,4 @@
--- Names as the entries of a map.
+-- Symbols as the entries of a map.
 use Rattle.std.proofs.Common.{◌≡◌, ◌+◌, ◌<◌, ℕ, true, false, cond, List, [], ◌∷◌, ◌++◌, length, take, slice_get, Some, None, String, string_bytes, string_eq, bytes_eq, refl, sym, ap, ◌∙◌, arith, ◌⊎◌, inl, inr, ◌≤◌, ◌-◌, suc, drop, get_or, option_map, Bor, drop-cons, length-drop, drop_of_length-le, append_assoc, ◌==◌, subst}
 use Rattle.std.proofs.lemmas.List.{map-append, length-map, drop-map}
 use Rattle.std.proofs.lemmas.List.Sums.{sum_by_more}

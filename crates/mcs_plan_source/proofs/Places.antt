@@ -7,12 +7,12 @@ use Rattle.mcs_types.specs.declared.cap.Cap.{Cap}
 use Rattle.mcs_plan_source.specs.Naming.{ByName, find}
 use Rattle.mcs_plan_source.specs.declared.plan.Slot.{Slot}
 use Rattle.mcs_plan_source.specs.declared.plan.Space.{Space}
-use Rattle.mcs_plan_source.specs.declared.fault.Why.{Why}
-use Rattle.mcs_plan_source.specs.declared.fault.Why.TheVariants as why
+use Rattle.mcs_plan_source.specs.declared.fault.PlanError.{PlanError}
+use Rattle.mcs_plan_source.specs.declared.fault.PlanError.TheVariants as why
 use Rattle.mcs_plan_source.specs.declared.plan.Plan.{Plan}
 use Rattle.mcs_plan_source.specs.Slots.{slots_of, most_slots, MayHave, AddsSlot}
 use Rattle.mcs_plan_source.specs.Lines.{has_slot, may_have, slot_added}
-use Rattle.mcs_plan_source.specs.Refusals.{Refusal, ◌>>◌, need, twice, limit, told_by}
+use Rattle.mcs_plan_source.specs.Refusals.{Refusal, ◌>>◌, need, twice, limit, refusal_by}
 use Rattle.mcs_plan_source.specs.Saying.{SaidSpace, said, said_space, at_place, with_last, with_slot, held_in}
 use Rattle.mcs_plan_source.specs.SlotRefusals.{MayNotHave}
 
@@ -89,25 +89,25 @@ may_more space name may =
     below : (m n : ℕ) → m < n → nat_lt m n ≡ true
     below m n less = grind (arith, less)
 
-no_more : (space : Space) (name : List ℕ) (w : Why) (e : Refusal) → MayNotHave space name w → told_by w ≡ Some e → may_have (Some (said_space space)) name ≡ Err e
+no_more : (space : Space) (name : List ℕ) (w : PlanError) (e : Refusal) → MayNotHave space name w → refusal_by w ≡ Some e → may_have (Some (said_space space)) name ≡ Err e
 no_more space name (why.Twice word) e h p =
     let there : is_some (find (held_in (slots_of space)) name) ≡ true = named_same (slots_of space) name ∙ h.1 in
-    ap (λ b. need (not b) (twice name) >> need (nat_lt (length (held_in (slots_of space))) (most_slots space.radix)) (limit (most_slots space.radix))) there ∙ ap (λ x. Err x) (told (string_bytes word) name e h.0 p)
+    ap (λ b. need (not b) (twice name) >> need (nat_lt (length (held_in (slots_of space))) (most_slots space.radix)) (limit (most_slots space.radix))) there ∙ ap (λ x. Err x) (error (string_bytes word) name e h.0 p)
   where
-    told : (m n : List ℕ) (e : Refusal) → m ≡ n → Some (twice m) ≡ Some e → twice n ≡ e
-    told m n e is p = cc
+    error : (m n : List ℕ) (e : Refusal) → m ≡ n → Some (twice m) ≡ Some e → twice n ≡ e
+    error m n e is p = cc
 no_more space name (why.Limit what most) e h p =
     let fresh : is_some (find (held_in (slots_of space)) name) ≡ false = named_same (slots_of space) name ∙ ap is_some h.1 in
     let same : length (held_in (slots_of space)) ≡ length (slots_of space) = length-map (slots_of space) (λ (x : List ℕ × Slot). (x.0, x.1.cap)) in
     let full : nat_lt (length (held_in (slots_of space))) (most_slots space.radix) ≡ false = ap (λ n. nat_lt n (most_slots space.radix)) same ∙ above _ _ h.2 in
     ap (λ b. need (not b) (twice name) >> need (nat_lt (length (held_in (slots_of space))) (most_slots space.radix)) (limit (most_slots space.radix))) fresh
-    ∙ ap (λ b. need b (limit (most_slots space.radix))) full ∙ ap (λ x. Err x) (told most (most_slots space.radix) e h.0 p)
+    ∙ ap (λ b. need b (limit (most_slots space.radix))) full ∙ ap (λ x. Err x) (error most (most_slots space.radix) e h.0 p)
   where
     above : (m n : ℕ) → n ≤ m → nat_lt m n ≡ false
     above m n less = grind (arith, less)
 
-    told : (m n : ℕ) (e : Refusal) → m ≡ n → Some (limit m) ≡ Some e → limit n ≡ e
-    told m n e is p = cc
+    error : (m n : ℕ) (e : Refusal) → m ≡ n → Some (limit m) ≡ Some e → limit n ≡ e
+    error m n e is p = cc
 no_more space name why.OutOfMemory e h p = absurd (cc)
 no_more space name w e h p = absurd h
 
@@ -129,8 +129,8 @@ added_nowhere p place name slot none =
     ap (λ o. may_have o name >> Ok (with_slot place name slot.cap (said p))) nowhere
     ∙ ap (λ ss. Ok (record (said p) { spaces = ss })) (no_place (said p).spaces place (with_last name slot.cap) nowhere)
 
-pub refused_there : (p : Plan) (place : ℕ) (space : Space) (name : List ℕ) (slot : Slot) (w : Why) (e : Refusal) → slice_get p.spaces.items place ≡ Some space → MayNotHave space name w
-    → told_by w ≡ Some e → slot_added place name slot.cap (said p) ≡ Err e
+pub refused_there : (p : Plan) (place : ℕ) (space : Space) (name : List ℕ) (slot : Slot) (w : PlanError) (e : Refusal) → slice_get p.spaces.items place ≡ Some space → MayNotHave space name w
+    → refusal_by w ≡ Some e → slot_added place name slot.cap (said p) ≡ Err e
 refused_there p place space name slot w e there h q =
     ap (λ o. may_have o name >> Ok (with_slot place name slot.cap (said p))) (said_there p place space there)
     ∙ ap (λ r. r >> Ok (with_slot place name slot.cap (said p))) (no_more space name w e h q)

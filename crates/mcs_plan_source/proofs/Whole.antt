@@ -69,24 +69,24 @@ same_length zero f (s ∷ ss) = refl
 same_length (suc place) f (s ∷ ss) = ap suc (same_length place f ss)
 
 -- this many threads are named, and not there yet
-record IsBehind (n : ℕ) (s : Said) : Type 0 where
+record LagsBy (n : ℕ) (s : Said) : Type 0 where
   counted : AreCounted s.names
   contexts : length s.contexts ≡ count_of kinds.Context s.names
   spaces : length s.spaces ≡ count_of kinds.CNode s.names
   threads : n + length s.threads ≡ count_of kinds.Thread s.names
   housed : AreHoused (length s.spaces) s.threads
 
-begins : (s : Said) → IsWhole s → IsBehind 0 s
+begins : (s : Said) → IsWhole s → LagsBy 0 s
 begins s w = record { counted = w.counted; contexts = w.contexts; spaces = w.spaces; threads = omega (arith, w.threads); housed = w.housed }
 
-ends : (s : Said) → IsBehind 0 s → IsWhole s
+ends : (s : Said) → LagsBy 0 s → IsWhole s
 ends s b = record { counted = b.counted; contexts = b.contexts; spaces = b.spaces; threads = omega (arith, b.threads); housed = b.housed }
 
 -- an object that is no thread, context or space; a thread's name; a context; a space
-object_behind : (kind : Kind) (name : List ℕ) (n : ℕ) (s : Said) → same_kind kind kinds.Thread ≡ false → same_kind kind kinds.Context ≡ false → same_kind kind kinds.CNode ≡ false
-    → IsBehind n s → IfOk (object_more kind name s) (IsBehind n)
-object_behind kind name n s t c m b =
-    may kind name s.names (Ok (with_object kind name s)) (IsBehind n) (λ is fresh room.
+object_lags : (kind : Kind) (name : List ℕ) (n : ℕ) (s : Said) → same_kind kind kinds.Thread ≡ false → same_kind kind kinds.Context ≡ false → same_kind kind kinds.CNode ≡ false
+    → LagsBy n s → IfOk (object_more kind name s) (LagsBy n)
+object_lags kind name n s t c m b =
+    may kind name s.names (Ok (with_object kind name s)) (LagsBy n) (λ is fresh room.
     record {
       counted = counted_more kind name s.names b.counted;
       contexts = b.contexts ∙ sym (none_more kinds.Context kind name s.names c);
@@ -95,9 +95,9 @@ object_behind kind name n s t c m b =
       housed = b.housed;
     })
 
-thread_behind : (name : List ℕ) (s : Said) → IsBehind 0 s → IfOk (object_more kinds.Thread name s) (IsBehind 1)
-thread_behind name s b =
-    may kinds.Thread name s.names (Ok (with_object kinds.Thread name s)) (IsBehind 1) (λ is fresh room.
+thread_lags : (name : List ℕ) (s : Said) → LagsBy 0 s → IfOk (object_more kinds.Thread name s) (LagsBy 1)
+thread_lags name s b =
+    may kinds.Thread name s.names (Ok (with_object kinds.Thread name s)) (LagsBy 1) (λ is fresh room.
     record {
       counted = counted_more kinds.Thread name s.names b.counted;
       contexts = b.contexts ∙ sym (none_more kinds.Context kinds.Thread name s.names refl);
@@ -106,10 +106,10 @@ thread_behind name s b =
       housed = b.housed;
     })
 
-context_behind : (name : List ℕ) (core : CoreId) (n : ℕ) (s : Said) → IsBehind n s → IfOk (context_more name core s) (IsBehind n)
-context_behind name core n s b =
-    may kinds.Context name s.names (keeps_limit kinds.Context (with_context name core s) >> Ok (with_context name core s)) (IsBehind n) (λ is fresh room.
-    skipped (keeps_limit kinds.Context (with_context name core s)) (Ok (with_context name core s)) (IsBehind n)
+context_lags : (name : List ℕ) (core : CoreId) (n : ℕ) (s : Said) → LagsBy n s → IfOk (context_more name core s) (LagsBy n)
+context_lags name core n s b =
+    may kinds.Context name s.names (keeps_limit kinds.Context (with_context name core s) >> Ok (with_context name core s)) (LagsBy n) (λ is fresh room.
+    skipped (keeps_limit kinds.Context (with_context name core s)) (Ok (with_context name core s)) (LagsBy n)
     (record {
       counted = counted_more kinds.Context name s.names b.counted;
       contexts = omega (arith, b.contexts, length-append s.contexts (core ∷ []), one_more kinds.Context kinds.Context name s.names);
@@ -118,9 +118,9 @@ context_behind name core n s b =
       housed = b.housed;
     }))
 
-space_behind : (name : List ℕ) (radix : Option ℕ) (n : ℕ) (s : Said) → IsBehind n s
-    → IfOk (space_more name radix s) (λ more. IsBehind n more × (length s.spaces < length more.spaces))
-space_behind name radix n s b =
+space_lags : (name : List ℕ) (radix : Option ℕ) (n : ℕ) (s : Said) → LagsBy n s
+    → IfOk (space_more name radix s) (λ more. LagsBy n more × (length s.spaces < length more.spaces))
+space_lags name radix n s b =
     may kinds.CNode name s.names (keeps_limit kinds.CNode (with_space name radix s) >> Ok (with_space name radix s)) Kept (λ is fresh room.
     skipped (keeps_limit kinds.CNode (with_space name radix s)) (Ok (with_space name radix s)) Kept (
       record {
@@ -134,7 +134,7 @@ space_behind name radix n s b =
     ))
   where
     Kept : Said → Type 0
-    Kept more = IsBehind n more × (length s.spaces < length more.spaces)
+    Kept more = LagsBy n more × (length s.spaces < length more.spaces)
 
     longer : length (s.spaces ++ (record { radix = radix; slots = [] }) ∷ []) ≡ length s.spaces + 1
     longer = length-append s.spaces ((record { radix = radix; slots = [] }) ∷ [])
@@ -147,7 +147,7 @@ place_there o n is first last =
     ap (λ b. unwrap_or (cond (b && nat_le 1 o.serial) (Some (o.serial - 1)) None) 0) is ∙ ap (λ b. unwrap_or (cond b (Some (o.serial - 1)) None) 0) least in
     omega (arith, at, first, last)
 
-named_there : (word : List ℕ) (n : ℕ) (s : Said) → IsBehind n s → IfOk (named_as kinds.CNode word s.names) (λ o. cnode_place o < length s.spaces)
+named_there : (word : List ℕ) (n : ℕ) (s : Said) → LagsBy n s → IfOk (named_as kinds.CNode word s.names) (λ o. cnode_place o < length s.spaces)
 named_there word n s b = go (find s.names word) refl
   where
     of_that : (o : ObjId) (x : Bool) → find s.names word ≡ Some o → same_kind o.kind kinds.CNode ≡ x
@@ -165,24 +165,24 @@ named_there word n s b = go (find s.names word) refl
     go (Some o) e = of_that o (same_kind o.kind kinds.CNode) e refl
 
 -- a thread with its context and its space
-own_context_behind : (name : List ℕ) (form : Form) (n : ℕ) (s : Said) → IsBehind n s → IfOk (with_own_context name form s) (IsBehind n)
-own_context_behind name form n s b =
-    chosen form.has_context (context_more (name ++ codes ".context") (record { 0 = form.core }) s) (Ok s) (IsBehind n)
-    (context_behind (name ++ codes ".context") (record { 0 = form.core }) n s b) b
+own_context_lags : (name : List ℕ) (form : Form) (n : ℕ) (s : Said) → LagsBy n s → IfOk (with_own_context name form s) (LagsBy n)
+own_context_lags name form n s b =
+    chosen form.has_context (context_more (name ++ codes ".context") (record { 0 = form.core }) s) (Ok s) (LagsBy n)
+    (context_lags (name ++ codes ".context") (record { 0 = form.core }) n s b) b
 
-own_space_behind : (name : List ℕ) (space : Option (List ℕ)) (n : ℕ) (s : Said) → IsBehind n s → IfOk (with_own_space name space s) (λ r. IsBehind n r.1 × (r.0 < length r.1.spaces))
-own_space_behind name None n s b =
-    after (space_more (name ++ codes ".space") None s) _ (λ more. IsBehind n more × (length s.spaces < length more.spaces)) (λ (r : ℕ × Said). IsBehind n r.1 × (r.0 < length r.1.spaces))
-    (space_behind (name ++ codes ".space") None n s b) (λ more h. h)
-own_space_behind name (Some word) n s b =
-    after (named_as kinds.CNode word s.names) (λ cnode. Ok (cnode_place cnode, s)) (λ o. cnode_place o < length s.spaces) (λ (r : ℕ × Said). IsBehind n r.1 × (r.0 < length r.1.spaces))
+own_space_lags : (name : List ℕ) (space : Option (List ℕ)) (n : ℕ) (s : Said) → LagsBy n s → IfOk (with_own_space name space s) (λ r. LagsBy n r.1 × (r.0 < length r.1.spaces))
+own_space_lags name None n s b =
+    after (space_more (name ++ codes ".space") None s) _ (λ more. LagsBy n more × (length s.spaces < length more.spaces)) (λ (r : ℕ × Said). LagsBy n r.1 × (r.0 < length r.1.spaces))
+    (space_lags (name ++ codes ".space") None n s b) (λ more h. h)
+own_space_lags name (Some word) n s b =
+    after (named_as kinds.CNode word s.names) (λ cnode. Ok (cnode_place cnode, s)) (λ o. cnode_place o < length s.spaces) (λ (r : ℕ × Said). LagsBy n r.1 × (r.0 < length r.1.spaces))
     (named_there word n s b) (λ o less. (b, less))
 
 thread_whole : (name : List ℕ) (priority : ℕ) (form : Form) (s : Said) → IsWhole s → IfOk (thread_more name priority form s) IsWhole
 thread_whole name priority form s w =
-    after (object_more kinds.Thread name s) _ (IsBehind 1) IsWhole (thread_behind name s (begins s w)) (λ named t.
-    after (with_own_context name form named) _ (IsBehind 1) IsWhole (own_context_behind name form 1 named t) (λ with_it u.
-    after (with_own_space name form.space with_it) _ (λ (r : ℕ × Said). IsBehind 1 r.1 × (r.0 < length r.1.spaces)) IsWhole (own_space_behind name form.space 1 with_it u) (λ r v.
+    after (object_more kinds.Thread name s) _ (LagsBy 1) IsWhole (thread_lags name s (begins s w)) (λ named t.
+    after (with_own_context name form named) _ (LagsBy 1) IsWhole (own_context_lags name form 1 named t) (λ with_it u.
+    after (with_own_space name form.space with_it) _ (λ (r : ℕ × Said). LagsBy 1 r.1 × (r.0 < length r.1.spaces)) IsWhole (own_space_lags name form.space 1 with_it u) (λ r v.
     record {
       counted = v.0.counted;
       contexts = v.0.contexts;
@@ -214,20 +214,20 @@ context_line_whole words s w =
     whatever (word_then words) _ IsWhole (λ named.
     whatever (on_then s.cores named.1) _ IsWhole (λ core.
     skipped (end_of core.1) _ IsWhole
-    (weaker (context_more named.0 (record { 0 = core.0 }) s) (IsBehind 0) IsWhole (λ more. ends more) (context_behind named.0 (record { 0 = core.0 }) 0 s (begins s w)))))
+    (weaker (context_more named.0 (record { 0 = core.0 }) s) (LagsBy 0) IsWhole (λ more. ends more) (context_lags named.0 (record { 0 = core.0 }) 0 s (begins s w)))))
 
 cnode_line_whole : (words : List (List ℕ)) (s : Said) → IsWhole s → IfOk (cnode_line words s) IsWhole
 cnode_line_whole words s w =
     whatever (word_then words) _ IsWhole (λ named.
     whatever (radix_then named.1) _ IsWhole (λ radix.
     skipped (end_of radix.1) _ IsWhole
-    (weaker (space_more named.0 radix.0 s) (λ more. IsBehind 0 more × (length s.spaces < length more.spaces)) IsWhole (λ more h. ends more h.0) (space_behind named.0 radix.0 0 s (begins s w)))))
+    (weaker (space_more named.0 radix.0 s) (λ more. LagsBy 0 more × (length s.spaces < length more.spaces)) IsWhole (λ more h. ends more h.0) (space_lags named.0 radix.0 0 s (begins s w)))))
 
 objects_whole : (kind : Kind) (names : List (List ℕ)) (s : Said) → same_kind kind kinds.Thread ≡ false → same_kind kind kinds.Context ≡ false → same_kind kind kinds.CNode ≡ false
     → IsWhole s → IfOk (objects_more kind names s) IsWhole
 objects_whole kind [] s t c m w = w
 objects_whole kind (name ∷ names) s t c m w =
-    after (object_more kind name s) (λ more. objects_more kind names more) (IsBehind 0) IsWhole (object_behind kind name 0 s t c m (begins s w))
+    after (object_more kind name s) (λ more. objects_more kind names more) (LagsBy 0) IsWhole (object_lags kind name 0 s t c m (begins s w))
     (λ more b. objects_whole kind names more t c m (ends more b))
 
 objects_line_whole : (kind : Kind) (names : List (List ℕ)) (s : Said) → same_kind kind kinds.Thread ≡ false → same_kind kind kinds.Context ≡ false → same_kind kind kinds.CNode ≡ false

@@ -25,10 +25,10 @@ abbrev pub code_of : List ℕ → List ℕ
 code_of line = take (code_len true line) line
 
 -- what follows a first byte
-abbrev pub behind_first : List ℕ → Option (List ℕ)
-behind_first [] = None
-behind_first (b ∷ bs) = Some bs
+abbrev pub without_first : List ℕ → Option (List ℕ)
+without_first [] = None
+without_first (b ∷ bs) = Some bs
 
 -- the comment of a line, after its `#`
 abbrev pub comment_of : List ℕ → Option (List ℕ)
-comment_of line = behind_first (drop (code_len true line) line)
+comment_of line = without_first (drop (code_len true line) line)

@@ -3,8 +3,8 @@ use Rattle.std.specs.Prelude.{◌≡◌, ◌^◌, ◌==◌, ◌&&◌, ℕ, Bool,
 use Rattle.std.specs.List.{list_all}
 use Rattle.std.specs.Char.{is_digit}
 use Rattle.std.specs.Str.Parse.{digits_value}
-use Rattle.mcs_plan_source.specs.declared.fault.Why.{Why}
-use Rattle.mcs_plan_source.specs.declared.fault.Why.TheVariants as why
+use Rattle.mcs_plan_source.specs.declared.fault.PlanError.{PlanError}
+use Rattle.mcs_plan_source.specs.declared.fault.PlanError.TheVariants as why
 use Rattle.mcs_plan_source.specs.Naming.{begins_with_digit}
 
 -- one digit of a base or more, and nothing else
@@ -39,8 +39,8 @@ ReadsNumber limit (word ∷ words) n left = (left ≡ words) × (number_within l
 
 -- why no number is read: no word is there, or the first, which is reported, spells none within the
 -- limit
-abbrev pub TellsNoNumber : ℕ → List (List ℕ) → Why → Type 0
+abbrev pub TellsNoNumber : ℕ → List (List ℕ) → PlanError → Type 0
 TellsNoNumber limit [] (why.Missing wanted) = Unit {0}
-TellsNoNumber limit (word ∷ words) (why.Not told wanted) = (string_bytes told ≡ word) × (number_within limit word ≡ None)
+TellsNoNumber limit (word ∷ words) (why.Not found wanted) = (string_bytes found ≡ word) × (number_within limit word ≡ None)
 TellsNoNumber limit (word ∷ words) why.OutOfMemory = Unit {0}
 TellsNoNumber limit words _ = ⊥

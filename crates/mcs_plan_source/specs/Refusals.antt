@@ -1,9 +1,9 @@
--- Why a line of a plan is refused, and readings that end there.
+-- PlanError a line of a plan is refused, and readings that end there.
 use Rattle.std.specs.Prelude.{◌≡◌, ℕ, Bool, true, false, List, Option, Some, None, Result, Ok, Err, string_bytes}
 use Rattle.std.specs.Option.{ForSome}
 use Rattle.mcs_types.specs.declared.boot.BootFault.{BootFault}
-use Rattle.mcs_plan_source.specs.declared.fault.Why.{Why}
-use Rattle.mcs_plan_source.specs.declared.fault.Why.TheVariants as why
+use Rattle.mcs_plan_source.specs.declared.fault.PlanError.{PlanError}
+use Rattle.mcs_plan_source.specs.declared.fault.PlanError.TheVariants as why
 
 -- a fault, and the word or the number that it tells
 pub data Refusal : Type 0 where
@@ -27,26 +27,26 @@ pub data Refusal : Type 0 where
 
 -- the fault that is reported; that memory was refused tells none, nor does what the statements of a
 -- program say
-abbrev pub told_by : Why → Option Refusal
-told_by why.NotText = Some no_text
-told_by (why.Unknown word) = Some (unknown (string_bytes word))
-told_by (why.Missing wanted) = Some missing
-told_by (why.TooMany word) = Some (too_many (string_bytes word))
-told_by (why.Not word wanted) = Some (not_wanted (string_bytes word))
-told_by (why.Twice word) = Some (twice (string_bytes word))
-told_by (why.NoName word wanted there) = Some (no_name (string_bytes word))
-told_by (why.NoCapability holder word there) = Some (no_capability (string_bytes holder) (string_bytes word))
-told_by (why.Limit what most) = Some (limit most)
-told_by why.LateCores = Some late_cores
-told_by (why.Bound word) = Some (bound (string_bytes word))
-told_by why.Late = Some late
-told_by why.NoStep = Some no_step
-told_by why.Mixed = Some mixed
-told_by why.PassiveUser = Some passive_user
-told_by (why.Unclosed opened) = Some unclosed
-told_by (why.Program told) = None
-told_by (why.Boot fault) = Some (boot fault)
-told_by why.OutOfMemory = None
+abbrev pub refusal_by : PlanError → Option Refusal
+refusal_by why.NotText = Some no_text
+refusal_by (why.Unknown word) = Some (unknown (string_bytes word))
+refusal_by (why.Missing wanted) = Some missing
+refusal_by (why.TooMany word) = Some (too_many (string_bytes word))
+refusal_by (why.Not word wanted) = Some (not_wanted (string_bytes word))
+refusal_by (why.Twice word) = Some (twice (string_bytes word))
+refusal_by (why.NoName word wanted there) = Some (no_name (string_bytes word))
+refusal_by (why.NoCapability holder word there) = Some (no_capability (string_bytes holder) (string_bytes word))
+refusal_by (why.Limit what most) = Some (limit most)
+refusal_by why.LateCores = Some late_cores
+refusal_by (why.Bound word) = Some (bound (string_bytes word))
+refusal_by why.Late = Some late
+refusal_by why.NoStep = Some no_step
+refusal_by why.Mixed = Some mixed
+refusal_by why.PassiveUser = Some passive_user
+refusal_by (why.Unclosed opened) = Some unclosed
+refusal_by (why.Program message) = None
+refusal_by (why.Boot fault) = Some (boot fault)
+refusal_by why.OutOfMemory = None
 
 -- whether a line before the first step is refused for such a fault
 abbrev pub is_of_line : Refusal → Bool
@@ -90,9 +90,9 @@ need true e = Ok tt
 need false e = Err e
 
 -- a fault that is reported is the one that the reading ends in
-abbrev pub Refuses : {X : Type 0} → Read X → Why → Type 0
-Refuses read w = ForSome (told_by w) (λ e. read ≡ Err e)
+abbrev pub Refuses : {X : Type 0} → Read X → PlanError → Type 0
+Refuses read w = ForSome (refusal_by w) (λ e. read ≡ Err e)
 
 -- a fault that is reported is one of lines before the first step
-abbrev pub TellsOfLine : Why → Type 0
-TellsOfLine w = ForSome (told_by w) (λ e. is_of_line e ≡ true)
+abbrev pub TellsOfLine : PlanError → Type 0
+TellsOfLine w = ForSome (refusal_by w) (λ e. is_of_line e ≡ true)

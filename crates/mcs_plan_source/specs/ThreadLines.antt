@@ -7,7 +7,7 @@ use Rattle.mcs_types.specs.declared.id.CoreId.{CoreId}
 use Rattle.mcs_types.specs.declared.id.Kind.TheVariants as kind
 use Rattle.mcs_types.specs.Limits.{core_limit}
 use Rattle.mcs_types.specs.declared.limits.TheConstants.{RADIX}
-use Rattle.mcs_plan_source.specs.declared.fault.Why.{Why}
+use Rattle.mcs_plan_source.specs.declared.fault.PlanError.{PlanError}
 use Rattle.mcs_plan_source.specs.Naming.{next_of}
 use Rattle.mcs_plan_source.specs.declared.plan.Plan.{Plan}
 use Rattle.mcs_plan_source.specs.declared.plan.Thread.{Thread}
@@ -19,7 +19,7 @@ use Rattle.mcs_plan_source.specs.Objects.{may_name, named_as}
 use Rattle.mcs_plan_source.specs.Refusals.{Read, ◌>>=◌, ◌>>◌, need, missing, not_wanted, unknown, Refuses}
 use Rattle.mcs_plan_source.specs.Saying.{Said, said, with_context, with_space, with_thread}
 use Rattle.mcs_plan_source.specs.Threads.{cnode_place}
-use Rattle.mcs_plan_source.specs.Words.{word_then, behind, end_of, number_then, zero_word}
+use Rattle.mcs_plan_source.specs.Words.{word_then, after_word, end_of, number_then, zero_word}
 
 -- with which capabilities a passive thread receives
 pub record SaidReceiving : Type 0 where
@@ -59,15 +59,15 @@ plain_form =
 -- `core N`, one of those that there are
 abbrev pub core_then : Option ℕ → List (List ℕ) → Read (ℕ × List (List ℕ))
 core_then cores words = do
-  rest ← behind (codes "core") words
+  rest ← after_word (codes "core") words
   number_then (unwrap_or cores core_limit - 1) rest
 
 -- `on EP with REPLY`
 abbrev pub receiving_then : List (List ℕ) → Read (SaidReceiving × List (List ℕ))
 receiving_then words = do
-  on ← behind (codes "on") words
+  on ← after_word (codes "on") words
   (endpoint, rest) ← word_then on
-  with_word ← behind (codes "with") rest
+  with_word ← after_word (codes "with") rest
   (reply, left) ← word_then with_word
   Ok (record { endpoint = endpoint; reply = reply }, left)
 
@@ -80,7 +80,7 @@ taking change read = do
 -- `without context`: it has none
 abbrev pub without_then : List (List ℕ) → Read (Bool × List (List ℕ))
 without_then words = do
-  left ← behind (codes "context") words
+  left ← after_word (codes "context") words
   Ok (false, left)
 
 -- a part of the line, which begins with this word
@@ -197,7 +197,7 @@ thread_line line words s = do
 abbrev pub on_then : Option ℕ → List (List ℕ) → Read (ℕ × List (List ℕ))
 on_then cores [] = Ok (0, [])
 on_then cores (word ∷ words) = do
-  rest ← behind (codes "on") (word ∷ words)
+  rest ← after_word (codes "on") (word ∷ words)
   core_then cores rest
 
 -- the line of a context
@@ -250,12 +250,12 @@ says_has (word ∷ words) = bytes_eq word (codes "has")
 abbrev pub line_more : ℕ → List (List ℕ) → Said → Read Said
 line_more line [] s = Ok s
 line_more line (first ∷ words) s =
-    if says_has words then (behind (codes "has") words >>= λ left. has_line first left s) else line_begun line first words s
+    if says_has words then (after_word (codes "has") words >>= λ left. has_line first left s) else line_begun line first words s
 
 -- the words of a line before the first step may be taken, and the plan says this then
 abbrev pub ReadsLine : ℕ → List (List ℕ) → Plan → Said → Type 0
 ReadsLine line words plan new = line_more line words (said plan) ≡ Ok new
 
 -- they may not, and this is why; that memory was refused says nothing of them
-abbrev pub RefusesLine : ℕ → List (List ℕ) → Plan → Why → Type 0
+abbrev pub RefusesLine : ℕ → List (List ℕ) → Plan → PlanError → Type 0
 RefusesLine line words plan w = Refuses (line_more line words (said plan)) w

@@ -10,9 +10,9 @@ word_then [] = Err missing
 word_then (word ∷ words) = Ok (word, words)
 
 -- the words after one that is wanted
-abbrev pub behind : List ℕ → List (List ℕ) → Read (List (List ℕ))
-behind wanted [] = Err missing
-behind wanted (word ∷ words) = if bytes_eq word wanted then Ok words else Err (not_wanted word)
+abbrev pub after_word : List ℕ → List (List ℕ) → Read (List (List ℕ))
+after_word wanted [] = Err missing
+after_word wanted (word ∷ words) = if bytes_eq word wanted then Ok words else Err (not_wanted word)
 
 -- no word is left
 abbrev pub end_of : List (List ℕ) → Read (Unit {0})

@@ -4,7 +4,7 @@ ghost use Rattle.mcs_plan_source.specs.Capabilities.{front_of, rest_of, name_in,
 ghost use Rattle.mcs_plan_source.specs.Refusals.{Refuses};
 
 use crate::rights::rights_of;
-use crate::{Names, Why, not, number};
+use crate::{PlanError, Symbols, not, number};
 use mcs_types::{Badge, Cap, Guard, Kind, ObjId, Rights};
 use std::alloc::{AllocError, Global};
 
@@ -100,9 +100,9 @@ fn wanted_of(kind: Kind, word: &str) -> &'static str {
 /// Returns the capability that a word spells: an object, and for an endpoint or a notification its
 /// rights (all if none are written) and its badge. `NoName` if there is no such object, `Not` if
 /// the rights or the badge are wrong.
-pub fn cap_of(alloc: Global, names: &Names, word: &str) -> Result<Cap, Why>
+pub fn cap_of(alloc: Global, names: &Symbols, word: &str) -> Result<Cap, PlanError>
     ensures spelt { IfOk result (λ c. cap_read names.now word.now ≡ Ok c) }
-    ensures told { IfErr result (Refuses (cap_read names.now word.now)) }
+    ensures error { IfErr result (Refuses (cap_read names.now word.now)) }
 {
     let (name, _, _) = parts_of(word);
     let obj = names.object(alloc, name)?;

@@ -7,7 +7,7 @@ use std::fmt;
 /// Why a line of a plan is refused. The report names the word and, for an unknown name, lists the
 /// known ones.
 #[derive(Debug, Drop)]
-pub enum Why {
+pub enum PlanError {
     NotText,
     Unknown {
         word: String,
@@ -53,7 +53,7 @@ pub enum Why {
     },
     /// The message about a program.
     Program {
-        told: String,
+        message: String,
     },
     Boot(BootFault),
     OutOfMemory,
@@ -90,82 +90,82 @@ fn say_no_capability<W: fmt::Write>(
     f.write_str(there.as_str())
 }
 
-impl fmt::Display for Why {
+impl fmt::Display for PlanError {
     fn fmt<W: fmt::Write>(&self, f: &mut fmt::Formatter<W>) -> fmt::Result {
         match self {
-            Why::NotText => f.write_str("its bytes are no text"),
-            Why::Unknown { word } => say(f, word, " begins no line of a plan"),
-            Why::Missing { wanted } => write!(f, "{wanted} is missing at the end"),
-            Why::TooMany { word } => say(f, word, " is one word too many"),
-            Why::Not { word, wanted } => {
+            PlanError::NotText => f.write_str("its bytes are no text"),
+            PlanError::Unknown { word } => say(f, word, " begins no line of a plan"),
+            PlanError::Missing { wanted } => write!(f, "{wanted} is missing at the end"),
+            PlanError::TooMany { word } => say(f, word, " is one word too many"),
+            PlanError::Not { word, wanted } => {
                 say(f, word, " is not ")?;
                 f.write_str(wanted)
             }
-            Why::Twice { word } => say(f, word, " is named twice"),
-            Why::NoName {
+            PlanError::Twice { word } => say(f, word, " is named twice"),
+            PlanError::NoName {
                 word,
                 wanted,
                 there,
             } => say_no_name(f, word, wanted, there),
-            Why::NoCapability {
+            PlanError::NoCapability {
                 holder,
                 word,
                 there,
             } => say_no_capability(f, holder, word, there),
-            Why::Limit { what, limit } => write!(f, "more than {limit} {what}"),
-            Why::LateCores => f.write_str("\"cores\" stands behind a thread or a context"),
-            Why::Bound { word } => say(f, word, " is bound already"),
-            Why::Late => f.write_str("this line stands behind the first step"),
-            Why::NoStep => f.write_str("no step stands before this line"),
-            Why::Mixed => f.write_str("steps and lines of users do not go together"),
-            Why::PassiveUser => {
+            PlanError::Limit { what, limit } => write!(f, "more than {limit} {what}"),
+            PlanError::LateCores => f.write_str("\"cores\" stands behind a thread or a context"),
+            PlanError::Bound { word } => say(f, word, " is bound already"),
+            PlanError::Late => f.write_str("this line stands behind the first step"),
+            PlanError::NoStep => f.write_str("no step stands before this line"),
+            PlanError::Mixed => f.write_str("steps and lines of users do not go together"),
+            PlanError::PassiveUser => {
                 f.write_str("a passive thread receives in a step, and these are lines of users")
             }
-            Why::Unclosed { opened } => {
+            PlanError::Unclosed { opened } => {
                 write!(f, "the program that begins in line {opened} is not closed")
             }
-            Why::Program { told } => write!(f, "program: {told}"),
-            Why::Boot(fault) => write!(f, "the boot is refused: {fault}"),
-            Why::OutOfMemory => f.write_str("out of memory"),
+            PlanError::Program { message } => write!(f, "program: {message}"),
+            PlanError::Boot(fault) => write!(f, "the boot is refused: {fault}"),
+            PlanError::OutOfMemory => f.write_str("out of memory"),
         }
     }
 }
 
-impl std::error::Error for Why {}
+impl std::error::Error for PlanError {}
 
-impl From<AllocError> for Why {
+impl From<AllocError> for PlanError {
     ghost use Rattle.std.specs.Prelude.{◌≡◌};
-    ghost use Rattle.mcs_plan_source.specs.declared.fault.Why.TheVariants.{OutOfMemory};
+    ghost use Rattle.mcs_plan_source.specs.declared.fault.PlanError.TheVariants.{OutOfMemory};
 
     ghost from_gives = { λ _ e. e ≡ OutOfMemory };
 
-    fn from(_error: AllocError) -> Why {
-        Why::OutOfMemory
+    fn from(_error: AllocError) -> PlanError {
+        PlanError::OutOfMemory
     }
 }
 
-impl<T: Drop> From<AllocFailed<T>> for Why {
+impl<T: Drop> From<AllocFailed<T>> for PlanError {
     ghost use Rattle.std.specs.Prelude.{◌≡◌};
-    ghost use Rattle.mcs_plan_source.specs.declared.fault.Why.TheVariants.{OutOfMemory};
+    ghost use Rattle.mcs_plan_source.specs.declared.fault.PlanError.TheVariants.{OutOfMemory};
 
     ghost from_gives = { λ _ e. e ≡ OutOfMemory };
 
-    fn from(_error: AllocFailed<T>) -> Why {
-        Why::OutOfMemory
+    fn from(_error: AllocFailed<T>) -> PlanError {
+        PlanError::OutOfMemory
     }
 }
 
-impl From<OutOfMemory> for Why {
-    fn from(_error: OutOfMemory) -> Why {
-        Why::OutOfMemory
+impl From<OutOfMemory> for PlanError {
+    fn from(_error: OutOfMemory) -> PlanError {
+        PlanError::OutOfMemory
     }
 }
 
-impl From<BootFault> for Why {
-    fn from(fault: BootFault) -> Why {
+impl From<BootFault> for PlanError {
+    fn from(fault: BootFault) -> PlanError {
         match fault {
-            BootFault::OutOfMemory => Why::OutOfMemory,
-            _ => Why::Boot(fault),
+            BootFault::OutOfMemory => PlanError::OutOfMemory,
+            _ => PlanError::Boot(fault),
         }
     }
 }
@@ -174,7 +174,7 @@ impl From<BootFault> for Why {
 #[derive(Debug, Drop)]
 pub struct PlanFault {
     pub line: u64,
-    pub why: Why,
+    pub why: PlanError,
 }
 
 impl fmt::Display for PlanFault {
@@ -182,7 +182,7 @@ impl fmt::Display for PlanFault {
         let line = self.line;
         let why = &self.why;
         match why {
-            Why::OutOfMemory => write!(f, "{why}"),
+            PlanError::OutOfMemory => write!(f, "{why}"),
             _ => write!(f, "line {line}: {why}"),
         }
     }
@@ -194,7 +194,7 @@ impl PlanFault {
     /// The exit status of a program that is given the plan (own).
     pub fn status(&self) -> u8 {
         match self.why {
-            Why::OutOfMemory => 6,
+            PlanError::OutOfMemory => 6,
             _ => 2,
         }
     }

@@ -12,10 +12,10 @@ mod shown;
 mod telling;
 mod words;
 
-pub use fault::{PlanFault, Why};
-pub use names::{Names, add_word, limit_of, plural, singular};
+pub use fault::{PlanError, PlanFault};
+pub use names::{Symbols, add_word, limit_of, plural, singular};
 pub use plan::{Passive, Plan, STARTER, Slot, Space, Thread, Tie};
 pub use rights::rights_of;
 pub use shown::Shown;
 pub use telling::tell_names;
-pub use words::{Words, is_like_id, is_name, is_white, not, number, split_comment, split_words};
+pub use words::{Tokens, is_like_id, is_name, is_white, not, number, split_comment, split_words};

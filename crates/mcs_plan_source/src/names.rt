@@ -3,7 +3,7 @@ ghost use Rattle.std.specs.Prelude.{◌≡◌, ◌++◌, ◌∷◌, [], min, Som
 ghost use Rattle.mcs_plan_source.specs.Naming.{limit_of, find, name_of, count_of, next_of, is_of_kind, with_word};
 ghost use Rattle.mcs_plan_source.specs.Telling.{MayAdd, MayNotAdd, Adds, TellsNoName, IsOfKind, HasNoneOfKind};
 
-use crate::fault::Why;
+use crate::fault::PlanError;
 use crate::words::{is_name, not};
 use indexmap::IndexMap;
 use mcs_types::{CNODES, Kind, OBJECTS, ObjId};
@@ -12,11 +12,11 @@ use std::marker::Model;
 
 /// The names of all objects, in the order of the plan.
 #[derive(Drop)]
-pub struct Names {
+pub struct Symbols {
     objects: IndexMap<String, ObjId>,
 }
 
-impl Model for Names {
+impl Model for Symbols {
     ghost use Rattle.mcs_plan_source.specs.Naming.{NameList, named_in};
 
     ghost Value = { NameList };
@@ -70,12 +70,12 @@ pub fn add_word(text: &mut String, word: &str) -> Result<(), AllocError>
     text.push_str(word)
 }
 
-impl Names {
+impl Symbols {
     /// Returns an empty table of names.
-    pub fn new(alloc: Global) -> Names
+    pub fn new(alloc: Global) -> Symbols
         ensures { result ≡ [] }
     {
-        Names {
+        Symbols {
             objects: IndexMap::new(alloc),
         }
     }
@@ -111,23 +111,23 @@ impl Names {
     }
 
     /// Returns the next object of a kind, if it may have this name.
-    fn next(&self, alloc: Global, kind: Kind, name: &str) -> Result<ObjId, Why>
+    fn next(&self, alloc: Global, kind: Kind, name: &str) -> Result<ObjId, PlanError>
         ensures may { OnOk result (MayAdd self.now kind name.now) }
         ensures next { IfOk result (λ o. o ≡ next_of kind self.now) }
-        ensures told { IfErr result (MayNotAdd self.now kind name.now) }
+        ensures error { IfErr result (MayNotAdd self.now kind name.now) }
     {
         if !is_name(name) {
             return Err(not(alloc, name, "a name"));
         }
         if self.find(name).is_some() {
-            return Err(Why::Twice {
+            return Err(PlanError::Twice {
                 word: String::from_str(alloc, name)?,
             });
         }
         let count = self.count(kind);
         let limit = limit_of(kind);
         if count >= limit {
-            return Err(Why::Limit {
+            return Err(PlanError::Limit {
                 what: plural(kind),
                 limit,
             });
@@ -152,9 +152,9 @@ impl Names {
 
     /// Names the next object of a kind. `Not` if the word is no name, `Twice` if it is one already,
     /// and `Limit` if there are as many objects of the kind as there may be.
-    pub fn add(&mut self, alloc: Global, kind: Kind, name: &str) -> Result<ObjId, Why>
+    pub fn add(&mut self, alloc: Global, kind: Kind, name: &str) -> Result<ObjId, PlanError>
         ensures added { IfOk result (λ o. Adds self.old kind name.now o self.new) }
-        ensures told { IfErr result (MayNotAdd self.old kind name.now) }
+        ensures error { IfErr result (MayNotAdd self.old kind name.now) }
         ensures unchanged { OnErr result (self.new ≡ self.old) }
     {
         let object = self.next(alloc, kind, name)?;
@@ -170,10 +170,10 @@ impl Names {
     }
 
     /// The object of this name. `NoName` if there is none.
-    pub fn object(&self, alloc: Global, name: &str) -> Result<ObjId, Why>
+    pub fn object(&self, alloc: Global, name: &str) -> Result<ObjId, PlanError>
         ensures found { IfOk result (λ o. find self.now name.now ≡ Some o) }
         ensures unknown { OnErr result (find self.now name.now ≡ None) }
-        ensures told { IfErr result (TellsNoName name.now) }
+        ensures error { IfErr result (TellsNoName name.now) }
     {
         match self.find(name) {
             Some(object) => Ok(object),
@@ -182,10 +182,10 @@ impl Names {
     }
 
     /// The object of this kind and name. `NoName` if there is none.
-    pub fn of_kind(&self, alloc: Global, kind: Kind, name: &str) -> Result<ObjId, Why>
+    pub fn of_kind(&self, alloc: Global, kind: Kind, name: &str) -> Result<ObjId, PlanError>
         ensures found { IfOk result (IsOfKind self.now kind name.now) }
         ensures unknown { OnErr result (HasNoneOfKind self.now kind name.now) }
-        ensures told { IfErr result (TellsNoName name.now) }
+        ensures error { IfErr result (TellsNoName name.now) }
     {
         if let Some(object) = self.find(name) {
             if object.kind.is_same(kind) {
@@ -196,7 +196,7 @@ impl Names {
     }
 
     /// Returns the fault of a name that no object has.
-    pub fn not_there(&self, alloc: Global, name: &str) -> Result<Why, AllocError>
+    pub fn not_there(&self, alloc: Global, name: &str) -> Result<PlanError, AllocError>
         ensures { IfOk result (TellsNoName name.now) }
     {
         self.no_name(alloc, name, "an object", None)
@@ -209,10 +209,10 @@ impl Names {
         name: &str,
         wanted: &'static str,
         kind: Option<Kind>,
-    ) -> Result<Why, AllocError>
+    ) -> Result<PlanError, AllocError>
         ensures { IfOk result (TellsNoName name.now) }
     {
-        Ok(Why::NoName {
+        Ok(PlanError::NoName {
             word: String::from_str(alloc, name)?,
             wanted,
             there: self.listed(alloc, kind)?,

@@ -10,7 +10,7 @@ ghost use Rattle.mcs_plan_source.specs.Slots.{most_slots, slots_of, slot_count, 
 ghost use Rattle.mcs_plan_source.specs.SlotRefusals.{MayNotHave};
 ghost use Rattle.mcs_plan_source.specs.Threads.{thread_in, space_of};
 
-use crate::{Names, Why, add_word, limit_of, plural};
+use crate::{PlanError, Symbols, add_word, limit_of, plural};
 use indexmap::IndexMap;
 use mcs_types::{Cap, CoreId, Kind, ObjId, Prio};
 use std::alloc::{AllocError, Global};
@@ -66,7 +66,7 @@ pub struct Tie {
 pub struct Plan {
     /// The number of cores, if the plan gives one.
     pub cores: Option<u8>,
-    pub names: Names,
+    pub names: Symbols,
     /// The core of each context.
     pub contexts: Vec<CoreId>,
     pub threads: Vec<Thread>,
@@ -123,20 +123,20 @@ impl Space {
 
     /// Adds a slot after the others. `Twice` if its name exists, and `Limit` if the space is full.
     #[tactic(auto, using(crate::proofs::SlotNames::counted))]
-    pub fn add(&mut self, alloc: Global, name: &str, slot: Slot) -> Result<(), Why>
+    pub fn add(&mut self, alloc: Global, name: &str, slot: Slot) -> Result<(), PlanError>
         ensures added { OnOk result (AddsSlot self.old name.now slot self.new) }
-        ensures told { IfErr result (MayNotHave self.old name.now) }
+        ensures error { IfErr result (MayNotHave self.old name.now) }
         ensures unchanged { OnErr result (slots_of self.new ≡ slots_of self.old) }
         ensures radix { self.new.radix ≡ self.old.radix }
     {
         if self.has(name) {
-            return Err(Why::Twice {
+            return Err(PlanError::Twice {
                 word: String::from_str(alloc, name)?,
             });
         }
         let most = most_slots(self.radix);
         if self.slots.len() >= most as usize {
-            return Err(Why::Limit {
+            return Err(PlanError::Limit {
                 what: "slots in this space",
                 limit: most,
             });
@@ -195,7 +195,7 @@ impl Plan {
     {
         Plan {
             cores: None,
-            names: Names::new(alloc),
+            names: Symbols::new(alloc),
             contexts: Vec::new(alloc),
             threads: Vec::new(alloc),
             spaces: Vec::new(alloc),
@@ -247,16 +247,16 @@ impl Plan {
     }
 
     /// Fails with `Limit` if the script would make more objects of a kind than there may be.
-    pub fn keeps_limit(&self, kind: Kind) -> Result<(), Why>
+    pub fn keeps_limit(&self, kind: Kind) -> Result<(), PlanError>
         ensures within { OnOk result (made_of (said self.now) kind ≤ limit_of kind) }
         ensures ok { OnOk result (keeps_limit kind (said self.now) ≡ Ok tt) }
-        ensures told { IfErr result (Refuses (keeps_limit kind (said self.now))) }
+        ensures error { IfErr result (Refuses (keeps_limit kind (said self.now))) }
     {
         let limit = limit_of(kind);
         if self.made(kind) <= limit {
             return Ok(());
         }
-        Err(Why::Limit {
+        Err(PlanError::Limit {
             what: plural(kind),
             limit,
         })

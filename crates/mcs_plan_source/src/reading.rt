@@ -15,7 +15,7 @@ ghost use Rattle.mcs_plan_source.specs.Words.{number_then};
 
 use crate::capabilities::{cap_of, parts_of, written_as};
 use crate::plan::{Passive, Plan, Slot, Space, Thread, Tie};
-use crate::{Names, Why, Words, is_name, not};
+use crate::{PlanError, Symbols, Tokens, is_name, not};
 use mcs_types::{CORES, Cap, CoreId, Kind, ObjId, Prio, RADIX};
 use std::alloc::{AllocError, Global};
 
@@ -48,16 +48,21 @@ fn with_end(alloc: Global, name: &str, end: &str) -> Result<String, AllocError>
 }
 
 /// Reads a number of 8 bits, up to a limit.
-fn byte(alloc: Global, words: &mut Words<'_>, wanted: &'static str, limit: u8) -> Result<u8, Why>
+fn byte(
+    alloc: Global,
+    words: &mut Tokens<'_>,
+    wanted: &'static str,
+    limit: u8,
+) -> Result<u8, PlanError>
     ensures value { IfOk result (λ n. number_then limit words.old ≡ Ok (n, words.new)) }
-    ensures told { IfErr result (Refuses (number_then limit words.old)) }
+    ensures error { IfErr result (Refuses (number_then limit words.old)) }
 {
     let n = words.number(alloc, wanted, limit as u64)?;
     Ok(n.min(255) as u8)
 }
 
 /// Returns whether the next word is `as`.
-fn says_as(words: &Words<'_>) -> bool
+fn says_as(words: &Tokens<'_>) -> bool
     ensures { result ≡ says_as words.now }
 {
     match words.peek() {
@@ -67,9 +72,9 @@ fn says_as(words: &Words<'_>) -> bool
 }
 
 /// Reads the name after `as`.
-fn given_name(alloc: Global, words: &mut Words<'_>) -> Result<String, Why>
+fn given_name(alloc: Global, words: &mut Tokens<'_>) -> Result<String, PlanError>
     ensures name { IfOk result (λ n. given_name words.old ≡ Ok (string_bytes n, words.new)) }
-    ensures told { IfErr result (Refuses (given_name words.old)) }
+    ensures error { IfErr result (Refuses (given_name words.old)) }
 {
     words.next();
     let name = words.need("a name")?;
@@ -80,9 +85,9 @@ fn given_name(alloc: Global, words: &mut Words<'_>) -> Result<String, Why>
 }
 
 /// Returns what a word puts into a slot: a capability, or nothing.
-fn held_by(alloc: Global, names: &Names, word: &str) -> Result<Option<Cap>, Why>
+fn held_by(alloc: Global, names: &Symbols, word: &str) -> Result<Option<Cap>, PlanError>
     ensures held { IfOk result (λ cap. held_by names.now word.now ≡ Ok cap) }
-    ensures told { IfErr result (Refuses (held_by names.now word.now)) }
+    ensures error { IfErr result (Refuses (held_by names.now word.now)) }
 {
     if word == "-" {
         return Ok(None);
@@ -91,9 +96,9 @@ fn held_by(alloc: Global, names: &Names, word: &str) -> Result<Option<Cap>, Why>
 }
 
 /// Reads the radix of a CNode, if the line says one.
-fn read_radix(alloc: Global, words: &mut Words<'_>) -> Result<Option<u8>, Why>
+fn read_radix(alloc: Global, words: &mut Tokens<'_>) -> Result<Option<u8>, PlanError>
     ensures radix { IfOk result (λ r. radix_then words.old ≡ Ok (r, words.new)) }
-    ensures told { IfErr result (Refuses (radix_then words.old)) }
+    ensures error { IfErr result (Refuses (radix_then words.old)) }
 {
     if words.peek().is_none() {
         return Ok(None);
@@ -106,9 +111,9 @@ fn read_radix(alloc: Global, words: &mut Words<'_>) -> Result<Option<u8>, Why>
 }
 
 /// Reads `without context`, if the line says it. Returns whether the thread has a context.
-fn read_without(alloc: Global, words: &mut Words<'_>) -> Result<bool, Why>
+fn read_without(alloc: Global, words: &mut Tokens<'_>) -> Result<bool, PlanError>
     ensures none { IfOk result (λ has. without_then words.old ≡ Ok (has, words.new)) }
-    ensures told { IfErr result (Refuses (without_then words.old)) }
+    ensures error { IfErr result (Refuses (without_then words.old)) }
 {
     words.expect(alloc, "context")?;
     Ok(false)
@@ -130,10 +135,13 @@ fn new_form() -> ThreadForm
 }
 
 /// Reads the words of `on EP with REPLY`. Returns the two names.
-fn receiving_words<'a>(alloc: Global, words: &mut Words<'a>) -> Result<(&'a str, &'a str), Why>
+fn receiving_words<'a>(
+    alloc: Global,
+    words: &mut Tokens<'a>,
+) -> Result<(&'a str, &'a str), PlanError>
     ensures said { IfOk result (λ r. receiving_then words.old
         ≡ Ok (record { endpoint = r.0.now; reply = r.1.now }, words.new)) }
-    ensures told { IfErr result (Refuses (receiving_then words.old)) }
+    ensures error { IfErr result (Refuses (receiving_then words.old)) }
 {
     words.expect(alloc, "on")?;
     let endpoint = words.need("the name of a capability")?;
@@ -154,29 +162,33 @@ fn receiving_of(alloc: Global, endpoint: &str, reply: &str) -> Result<Receiving,
 }
 
 /// Reads what a passive thread receives with: `on EP with REPLY`.
-fn read_receiving(alloc: Global, words: &mut Words<'_>) -> Result<Receiving, Why>
+fn read_receiving(alloc: Global, words: &mut Tokens<'_>) -> Result<Receiving, PlanError>
     ensures said { IfOk result (λ r. receiving_then words.old ≡ Ok (said_receiving r, words.new)) }
-    ensures told { IfErr result (Refuses (receiving_then words.old)) }
+    ensures error { IfErr result (Refuses (receiving_then words.old)) }
 {
     let (endpoint, reply) = receiving_words(alloc, words)?;
     Ok(receiving_of(alloc, endpoint, reply)?)
 }
 
 /// Reads `passive on EP with REPLY`, after its first word.
-fn read_passive(alloc: Global, words: &mut Words<'_>, form: &mut ThreadForm) -> Result<(), Why>
+fn read_passive(
+    alloc: Global,
+    words: &mut Tokens<'_>,
+    form: &mut ThreadForm,
+) -> Result<(), PlanError>
     ensures said { OnOk result
         (passive_then words.old (form_of form.old) ≡ Ok (form_of form.new, words.new)) }
-    ensures told { IfErr result (Refuses (passive_then words.old (form_of form.old))) }
+    ensures error { IfErr result (Refuses (passive_then words.old (form_of form.old))) }
 {
     form.passive = Some(read_receiving(alloc, words)?);
     Ok(())
 }
 
 /// Reads `in SPACE`, after its first word.
-fn read_in(alloc: Global, words: &mut Words<'_>, form: &mut ThreadForm) -> Result<(), Why>
+fn read_in(alloc: Global, words: &mut Tokens<'_>, form: &mut ThreadForm) -> Result<(), PlanError>
     ensures said { OnOk result
         (in_then words.old (form_of form.old) ≡ Ok (form_of form.new, words.new)) }
-    ensures told { IfErr result (Refuses (in_then words.old (form_of form.old))) }
+    ensures error { IfErr result (Refuses (in_then words.old (form_of form.old))) }
 {
     let space = words.need("the name of a space")?;
     form.space = Some(String::from_str(alloc, space)?);
@@ -184,7 +196,7 @@ fn read_in(alloc: Global, words: &mut Words<'_>, form: &mut ThreadForm) -> Resul
 }
 
 /// Returns whether the next word is `has`.
-fn says_has(words: &Words<'_>) -> bool
+fn says_has(words: &Tokens<'_>) -> bool
     ensures { result ≡ says_has words.now }
 {
     match words.peek() {
@@ -195,11 +207,11 @@ fn says_has(words: &Words<'_>) -> bool
 
 impl Plan {
     /// Adds an object.
-    fn add_object(&mut self, alloc: Global, kind: Kind, name: &str) -> Result<ObjId, Why>
+    fn add_object(&mut self, alloc: Global, kind: Kind, name: &str) -> Result<ObjId, PlanError>
         ensures object { IfOk result (λ o. o ≡ next_of kind self.old.names) }
         ensures added { OnOk result
             (object_more kind name.now (said self.old) ≡ Ok (said self.new)) }
-        ensures told { IfErr result (Refuses (object_more kind name.now (said self.old))) }
+        ensures error { IfErr result (Refuses (object_more kind name.now (said self.old))) }
         ensures unchanged { OnErr result (said self.new ≡ said self.old) }
     {
         let object = self.names.add(alloc, kind, name)?;
@@ -207,13 +219,18 @@ impl Plan {
     }
 
     /// Reads objects of a kind, each with a name.
-    fn read_objects(&mut self, alloc: Global, words: &mut Words<'_>, kind: Kind) -> Result<(), Why>
+    fn read_objects(
+        &mut self,
+        alloc: Global,
+        words: &mut Tokens<'_>,
+        kind: Kind,
+    ) -> Result<(), PlanError>
         ensures added { OnOk result
             (objects_line kind words.old (said self.old) ≡ Ok (said self.new)) }
-        ensures told { IfErr result (Refuses (objects_line kind words.old (said self.old))) }
+        ensures error { IfErr result (Refuses (objects_line kind words.old (said self.old))) }
     {
         if words.peek().is_none() {
-            return Err(Why::Missing { wanted: "a name" });
+            return Err(PlanError::Missing { wanted: "a name" });
         }
         for _ in 0..words.len() {
             if let Some(name) = words.next() {
@@ -224,9 +241,9 @@ impl Plan {
     }
 
     /// Reads the number of a core. `Not` if the machine has fewer cores.
-    fn read_core(&self, alloc: Global, words: &mut Words<'_>) -> Result<u8, Why>
+    fn read_core(&self, alloc: Global, words: &mut Tokens<'_>) -> Result<u8, PlanError>
         ensures core { IfOk result (λ n. core_then self.now.cores words.old ≡ Ok (n, words.new)) }
-        ensures told { IfErr result (Refuses (core_then self.now.cores words.old)) }
+        ensures error { IfErr result (Refuses (core_then self.now.cores words.old)) }
     {
         words.expect(alloc, "core")?;
         let cores = self.cores.unwrap_or(CORES);
@@ -239,11 +256,11 @@ impl Plan {
     }
 
     /// Adds a context.
-    fn add_context(&mut self, alloc: Global, name: &str, core: u8) -> Result<ObjId, Why>
+    fn add_context(&mut self, alloc: Global, name: &str, core: u8) -> Result<ObjId, PlanError>
         ensures context { IfOk result (λ o. o ≡ next_of Context self.old.names) }
         ensures added { OnOk result
             (context_more name.now (record { 0 = core }) (said self.old) ≡ Ok (said self.new)) }
-        ensures told { IfErr result
+        ensures error { IfErr result
             (Refuses (context_more name.now (record { 0 = core }) (said self.old))) }
     {
         let context = self.names.add(alloc, Kind::Context, name)?;
@@ -261,11 +278,16 @@ impl Plan {
     }
 
     /// Adds a space.
-    fn add_space(&mut self, alloc: Global, name: &str, radix: Option<u8>) -> Result<usize, Why>
+    fn add_space(
+        &mut self,
+        alloc: Global,
+        name: &str,
+        radix: Option<u8>,
+    ) -> Result<usize, PlanError>
         ensures place { IfOk result (λ place. place ≡ length self.old.spaces.items) }
         ensures added { OnOk result
             (space_more name.now radix (said self.old) ≡ Ok (said self.new)) }
-        ensures told { IfErr result (Refuses (space_more name.now radix (said self.old))) }
+        ensures error { IfErr result (Refuses (space_more name.now radix (said self.old))) }
     {
         self.names.add(alloc, Kind::CNode, name)?;
         let place = self.spaces.len();
@@ -275,9 +297,9 @@ impl Plan {
     }
 
     /// Reads the core of a context: 0 if the line says none.
-    fn read_on(&self, alloc: Global, words: &mut Words<'_>) -> Result<u8, Why>
+    fn read_on(&self, alloc: Global, words: &mut Tokens<'_>) -> Result<u8, PlanError>
         ensures core { IfOk result (λ n. on_then self.now.cores words.old ≡ Ok (n, words.new)) }
-        ensures told { IfErr result (Refuses (on_then self.now.cores words.old)) }
+        ensures error { IfErr result (Refuses (on_then self.now.cores words.old)) }
     {
         if words.peek().is_none() {
             return Ok(0);
@@ -287,9 +309,9 @@ impl Plan {
     }
 
     /// Reads the line of a context: `context NAME` or `context NAME on core N`.
-    fn read_context(&mut self, alloc: Global, words: &mut Words<'_>) -> Result<(), Why>
+    fn read_context(&mut self, alloc: Global, words: &mut Tokens<'_>) -> Result<(), PlanError>
         ensures added { OnOk result (context_line words.old (said self.old) ≡ Ok (said self.new)) }
-        ensures told { IfErr result (Refuses (context_line words.old (said self.old))) }
+        ensures error { IfErr result (Refuses (context_line words.old (said self.old))) }
     {
         let name = words.need("a name")?;
         let core = self.read_on(alloc, words)?;
@@ -299,9 +321,9 @@ impl Plan {
     }
 
     /// Reads the line of a CNode: `cnode NAME` or `cnode NAME RADIX`.
-    fn read_cnode(&mut self, alloc: Global, words: &mut Words<'_>) -> Result<(), Why>
+    fn read_cnode(&mut self, alloc: Global, words: &mut Tokens<'_>) -> Result<(), PlanError>
         ensures added { OnOk result (cnode_line words.old (said self.old) ≡ Ok (said self.new)) }
-        ensures told { IfErr result (Refuses (cnode_line words.old (said self.old))) }
+        ensures error { IfErr result (Refuses (cnode_line words.old (said self.old))) }
     {
         let name = words.need("a name")?;
         let radix = read_radix(alloc, words)?;
@@ -314,14 +336,14 @@ impl Plan {
     fn read_part(
         &self,
         alloc: Global,
-        words: &mut Words<'_>,
+        words: &mut Tokens<'_>,
         part: &str,
         form: &mut ThreadForm,
-    ) -> Result<(), Why>
+    ) -> Result<(), PlanError>
         ensures said { OnOk result
             (part_then self.now.cores part.now words.old (form_of form.old)
             ≡ Ok (form_of form.new, words.new)) }
-        ensures told { IfErr result
+        ensures error { IfErr result
             (Refuses (part_then self.now.cores part.now words.old (form_of form.old))) }
     {
         match part {
@@ -358,13 +380,13 @@ impl Plan {
     fn read_next(
         &self,
         alloc: Global,
-        words: &mut Words<'_>,
+        words: &mut Tokens<'_>,
         form: &mut ThreadForm,
-    ) -> Result<(), Why>
+    ) -> Result<(), PlanError>
         ensures said { OnOk result
             (next_part self.now.cores words.old (form_of form.old)
             ≡ Ok (form_of form.new, words.new)) }
-        ensures told { IfErr result
+        ensures error { IfErr result
             (Refuses (next_part self.now.cores words.old (form_of form.old))) }
     {
         match words.next() {
@@ -378,13 +400,13 @@ impl Plan {
     fn read_parts(
         &self,
         alloc: Global,
-        words: &mut Words<'_>,
+        words: &mut Tokens<'_>,
         form: &mut ThreadForm,
-    ) -> Result<(), Why>
+    ) -> Result<(), PlanError>
         ensures said { OnOk result
             (parts_then (length words.old) self.now.cores words.old (form_of form.old)
             ≡ Ok (form_of form.new)) }
-        ensures told { IfErr result (Refuses
+        ensures error { IfErr result (Refuses
             (parts_then (length words.old) self.now.cores words.old (form_of form.old))) }
     {
         for _ in 0..words.len() {
@@ -394,9 +416,9 @@ impl Plan {
     }
 
     /// Reads a thread's line after the name.
-    fn read_form(&self, alloc: Global, words: &mut Words<'_>) -> Result<ThreadForm, Why>
+    fn read_form(&self, alloc: Global, words: &mut Tokens<'_>) -> Result<ThreadForm, PlanError>
         ensures said { IfOk result (λ f. form_said self.now.cores words.old ≡ Ok (form_of f)) }
-        ensures told { IfErr result (Refuses (form_said self.now.cores words.old)) }
+        ensures error { IfErr result (Refuses (form_said self.now.cores words.old)) }
     {
         let mut form = new_form();
         self.read_parts(alloc, words, &mut form)?;
@@ -407,11 +429,16 @@ impl Plan {
     }
 
     /// Finds or makes the space of a thread: one by hand, or its own.
-    fn read_space(&mut self, alloc: Global, name: &str, form: &ThreadForm) -> Result<usize, Why>
+    fn read_space(
+        &mut self,
+        alloc: Global,
+        name: &str,
+        form: &ThreadForm,
+    ) -> Result<usize, PlanError>
         ensures added { IfOk result (λ place.
             with_own_space name.now (form_of form.now).space (said self.old)
             ≡ Ok (place, said self.new)) }
-        ensures told { IfErr result
+        ensures error { IfErr result
             (Refuses (with_own_space name.now (form_of form.now).space (said self.old))) }
     {
         match &form.space {
@@ -432,11 +459,11 @@ impl Plan {
         alloc: Global,
         name: &str,
         form: &ThreadForm,
-    ) -> Result<Option<ObjId>, Why>
+    ) -> Result<Option<ObjId>, PlanError>
         ensures context { IfOk result (λ o. o ≡ own_context (form_of form.now) (said self.old)) }
         ensures added { OnOk result
             (with_own_context name.now (form_of form.now) (said self.old) ≡ Ok (said self.new)) }
-        ensures told { IfErr result
+        ensures error { IfErr result
             (Refuses (with_own_context name.now (form_of form.now) (said self.old))) }
     {
         if !form.has_context {
@@ -463,11 +490,12 @@ impl Plan {
         name: &str,
         priority: u8,
         form: &ThreadForm,
-    ) -> Result<ObjId, Why>
+    ) -> Result<ObjId, PlanError>
         ensures thread { IfOk result (λ o. o ≡ next_of of_kind.Thread self.old.names) }
         ensures added { OnOk result
-            (thread_more name.now priority (form_of form.now) (said self.old) ≡ Ok (said self.new)) }
-        ensures told { IfErr result
+            (thread_more name.now priority (form_of form.now) (said self.old)
+            ≡ Ok (said self.new)) }
+        ensures error { IfErr result
             (Refuses (thread_more name.now priority (form_of form.now) (said self.old))) }
     {
         let thread = self.add_object(alloc, Kind::Thread, name)?;
@@ -514,14 +542,14 @@ impl Plan {
         line: u64,
         name: &str,
         form: &ThreadForm,
-    ) -> Result<(), Why>
+    ) -> Result<(), PlanError>
         ensures added { OnOk result
             (form_added line name.now (form_of form.now) (said self.old) ≡ Ok (said self.new)) }
-        ensures told { IfErr result
+        ensures error { IfErr result
             (Refuses (form_added line name.now (form_of form.now) (said self.old))) }
     {
         let Some(priority) = form.priority else {
-            return Err(Why::Missing { wanted: "prio" });
+            return Err(PlanError::Missing { wanted: "prio" });
         };
         let thread = self.add_thread(alloc, name, priority, form)?;
         self.add_passive(line, thread, &form.passive)?;
@@ -529,10 +557,15 @@ impl Plan {
     }
 
     /// Adds the thread of a line.
-    fn put_thread(&mut self, alloc: Global, line: u64, words: &mut Words<'_>) -> Result<(), Why>
+    fn put_thread(
+        &mut self,
+        alloc: Global,
+        line: u64,
+        words: &mut Tokens<'_>,
+    ) -> Result<(), PlanError>
         ensures added { OnOk result
             (thread_said line words.old (said self.old) ≡ Ok (said self.new)) }
-        ensures told { IfErr result (Refuses (thread_said line words.old (said self.old))) }
+        ensures error { IfErr result (Refuses (thread_said line words.old (said self.old))) }
     {
         let name = words.need("a name")?;
         let form = self.read_form(alloc, words)?;
@@ -540,10 +573,15 @@ impl Plan {
     }
 
     /// Reads the line of a thread.
-    fn read_thread(&mut self, alloc: Global, line: u64, words: &mut Words<'_>) -> Result<(), Why>
+    fn read_thread(
+        &mut self,
+        alloc: Global,
+        line: u64,
+        words: &mut Tokens<'_>,
+    ) -> Result<(), PlanError>
         ensures added { OnOk result
             (thread_line line words.old (said self.old) ≡ Ok (said self.new)) }
-        ensures told { IfErr result (Refuses (thread_line line words.old (said self.old))) }
+        ensures error { IfErr result (Refuses (thread_line line words.old (said self.old))) }
     {
         self.put_thread(alloc, line, words)?;
         self.keeps_limit(Kind::Thread)?;
@@ -576,21 +614,21 @@ impl Plan {
         thread: ObjId,
         word: &str,
         notification: ObjId,
-    ) -> Result<(), Why>
+    ) -> Result<(), PlanError>
         ensures added { OnOk result
             (tie_added thread_word.now thread word.now notification (said self.old)
             ≡ Ok (said self.new)) }
-        ensures told { IfErr result
+        ensures error { IfErr result
             (Refuses (tie_added thread_word.now thread word.now notification (said self.old))) }
         ensures unchanged { OnErr result (said self.new ≡ said self.old) }
     {
         if self.is_thread_bound(thread) {
-            return Err(Why::Bound {
+            return Err(PlanError::Bound {
                 word: String::from_str(alloc, thread_word)?,
             });
         }
         if self.is_notification_bound(notification) {
-            return Err(Why::Bound {
+            return Err(PlanError::Bound {
                 word: String::from_str(alloc, word)?,
             });
         }
@@ -603,9 +641,9 @@ impl Plan {
 
     /// Reads the line of a binding: `tie THREAD NOTIFICATION`. `Bound` if one of the two is bound
     /// already.
-    fn read_tie(&mut self, alloc: Global, words: &mut Words<'_>) -> Result<(), Why>
+    fn read_tie(&mut self, alloc: Global, words: &mut Tokens<'_>) -> Result<(), PlanError>
         ensures added { OnOk result (tie_line words.old (said self.old) ≡ Ok (said self.new)) }
-        ensures told { IfErr result (Refuses (tie_line words.old (said self.old))) }
+        ensures error { IfErr result (Refuses (tie_line words.old (said self.old))) }
         ensures unchanged { OnErr result (said self.new ≡ said self.old) }
     {
         let thread_word = words.need("the name of a thread")?;
@@ -617,9 +655,9 @@ impl Plan {
     }
 
     /// Reads the line of the number of cores, which comes first. `Late` after a context was made.
-    fn read_cores(&mut self, alloc: Global, words: &mut Words<'_>) -> Result<(), Why>
+    fn read_cores(&mut self, alloc: Global, words: &mut Tokens<'_>) -> Result<(), PlanError>
         ensures added { OnOk result (cores_line words.old (said self.old) ≡ Ok (said self.new)) }
-        ensures told { IfErr result (Refuses (cores_line words.old (said self.old))) }
+        ensures error { IfErr result (Refuses (cores_line words.old (said self.old))) }
         ensures unchanged { OnErr result (said self.new ≡ said self.old) }
     {
         let cores = byte(alloc, words, "a number of cores, 1 to 16", CORES)?;
@@ -628,21 +666,21 @@ impl Plan {
             return Err(not(alloc, "0", "a number of cores, 1 to 16"));
         }
         if self.cores.is_some() {
-            return Err(Why::Twice {
+            return Err(PlanError::Twice {
                 word: String::from_str(alloc, "cores")?,
             });
         }
         if !self.contexts.is_empty() || !self.threads.is_empty() {
-            return Err(Why::LateCores);
+            return Err(PlanError::LateCores);
         }
         self.cores = Some(cores);
         Ok(())
     }
 
     /// The place of the space that a name stands for: a thread's, or one by hand.
-    fn space_named(&self, alloc: Global, name: &str) -> Result<usize, Why>
+    fn space_named(&self, alloc: Global, name: &str) -> Result<usize, PlanError>
         ensures place { IfOk result (λ place. space_named name.now (said self.now) ≡ Ok place) }
-        ensures told { IfErr result (Refuses (space_named name.now (said self.now))) }
+        ensures error { IfErr result (Refuses (space_named name.now (said self.now))) }
     {
         if let Some(object) = self.names.find(name) {
             if object.kind.is_same(Kind::CNode) {
@@ -667,14 +705,14 @@ impl Plan {
 
     /// Returns the default name of a slot: that of its object, or the whole word if that name is
     /// taken. `Missing` for an empty slot.
-    fn usual_name(&self, alloc: Global, place: usize, word: &str) -> Result<String, Why>
+    fn usual_name(&self, alloc: Global, place: usize, word: &str) -> Result<String, PlanError>
         ensures name { IfOk result (λ n.
             usual_name (slice_get (said self.now).spaces place) word.now ≡ Ok (string_bytes n)) }
-        ensures told { IfErr result
+        ensures error { IfErr result
             (Refuses (usual_name (slice_get (said self.now).spaces place) word.now)) }
     {
         if word == "-" {
-            return Err(Why::Missing { wanted: "as" });
+            return Err(PlanError::Missing { wanted: "as" });
         }
         let (name, _, _) = parts_of(word);
         if self.has_slot(place, name) {
@@ -687,14 +725,14 @@ impl Plan {
     fn slot_name(
         &self,
         alloc: Global,
-        words: &mut Words<'_>,
+        words: &mut Tokens<'_>,
         place: usize,
         word: &str,
-    ) -> Result<String, Why>
+    ) -> Result<String, PlanError>
         ensures name { IfOk result (λ n.
             slot_name (slice_get (said self.now).spaces place) word.now words.old
             ≡ Ok (string_bytes n, words.new)) }
-        ensures told { IfErr result
+        ensures error { IfErr result
             (Refuses (slot_name (slice_get (said self.now).spaces place) word.now words.old)) }
     {
         if !says_as(words) {
@@ -704,10 +742,16 @@ impl Plan {
     }
 
     /// Adds a slot to a space. `Twice` if its name exists, and `Limit` if the space is full.
-    fn add_slot(&mut self, alloc: Global, place: usize, name: &str, slot: Slot) -> Result<(), Why>
+    fn add_slot(
+        &mut self,
+        alloc: Global,
+        place: usize,
+        name: &str,
+        slot: Slot,
+    ) -> Result<(), PlanError>
         ensures added { OnOk result
             (slot_added place name.now slot.cap (said self.old) ≡ Ok (said self.new)) }
-        ensures told { IfErr result
+        ensures error { IfErr result
             (Refuses (slot_added place name.now slot.cap (said self.old))) }
         ensures unchanged { OnErr result (said self.new ≡ said self.old) }
     {
@@ -724,11 +768,11 @@ impl Plan {
         alloc: Global,
         place: usize,
         word: &str,
-        words: &mut Words<'_>,
-    ) -> Result<(), Why>
+        words: &mut Tokens<'_>,
+    ) -> Result<(), PlanError>
         ensures added { OnOk result
             (slot_more place word.now words.old (said self.old) ≡ Ok (said self.new, words.new)) }
-        ensures told { IfErr result
+        ensures error { IfErr result
             (Refuses (slot_more place word.now words.old (said self.old))) }
         ensures unchanged { OnErr result (said self.new ≡ said self.old) }
     {
@@ -744,11 +788,11 @@ impl Plan {
         alloc: Global,
         place: usize,
         word: &str,
-        words: &mut Words<'_>,
-    ) -> Result<(), Why>
+        words: &mut Tokens<'_>,
+    ) -> Result<(), PlanError>
         ensures added { OnOk result
             (slot_kept place word.now words.old (said self.old) ≡ Ok (said self.new, words.new)) }
-        ensures told { IfErr result
+        ensures error { IfErr result
             (Refuses (slot_kept place word.now words.old (said self.old))) }
     {
         self.put_slot(alloc, place, word, words)?;
@@ -756,10 +800,15 @@ impl Plan {
     }
 
     /// Reads capabilities of a space, as far as the line goes.
-    fn read_slots(&mut self, alloc: Global, place: usize, words: &mut Words<'_>) -> Result<(), Why>
+    fn read_slots(
+        &mut self,
+        alloc: Global,
+        place: usize,
+        words: &mut Tokens<'_>,
+    ) -> Result<(), PlanError>
         ensures added { OnOk result
             (slots_more (length words.old) place words.old (said self.old) ≡ Ok (said self.new)) }
-        ensures told { IfErr result
+        ensures error { IfErr result
             (Refuses (slots_more (length words.old) place words.old (said self.old))) }
     {
         for _ in 0..words.len() {
@@ -771,14 +820,19 @@ impl Plan {
     }
 
     /// Reads the line of what a space has: `NAME has CAPABILITY ..`.
-    fn read_has(&mut self, alloc: Global, name: &str, words: &mut Words<'_>) -> Result<(), Why>
+    fn read_has(
+        &mut self,
+        alloc: Global,
+        name: &str,
+        words: &mut Tokens<'_>,
+    ) -> Result<(), PlanError>
         ensures added { OnOk result
             (has_line name.now words.old (said self.old) ≡ Ok (said self.new)) }
-        ensures told { IfErr result (Refuses (has_line name.now words.old (said self.old))) }
+        ensures error { IfErr result (Refuses (has_line name.now words.old (said self.old))) }
     {
         let place = self.space_named(alloc, name)?;
         if words.peek().is_none() {
-            return Err(Why::Missing {
+            return Err(PlanError::Missing {
                 wanted: "a capability",
             });
         }
@@ -791,11 +845,11 @@ impl Plan {
         alloc: Global,
         line: u64,
         first: &str,
-        words: &mut Words<'_>,
-    ) -> Result<(), Why>
+        words: &mut Tokens<'_>,
+    ) -> Result<(), PlanError>
         ensures added { OnOk result
             (line_begun line first.now words.old (said self.old) ≡ Ok (said self.new)) }
-        ensures told { IfErr result
+        ensures error { IfErr result
             (Refuses (line_begun line first.now words.old (said self.old))) }
     {
         match first {
@@ -807,7 +861,7 @@ impl Plan {
             "cnode" => self.read_cnode(alloc, words),
             "thread" => self.read_thread(alloc, line, words),
             "tie" => self.read_tie(alloc, words),
-            _ => Err(Why::Unknown {
+            _ => Err(PlanError::Unknown {
                 word: String::from_str(alloc, first)?,
             }),
         }
@@ -815,14 +869,14 @@ impl Plan {
 
     /// Reads a line before the first step. If it is refused, the first fault is returned. The
     /// contents of the plan are then unspecified: the caller drops it.
-    pub fn read(&mut self, alloc: Global, line: u64, words: &[&str]) -> Result<(), Why>
+    pub fn read(&mut self, alloc: Global, line: u64, words: &[&str]) -> Result<(), PlanError>
         ensures taken { OnOk result (ReadsLine line (texts words.now) self.old (said self.new)) }
         ensures refused { IfErr result (RefusesLine line (texts words.now) self.old) }
         ensures fault { IfErr result TellsOfLine }
         ensures in_order { OnOk result (IsInOrder (said self.old) → IsInOrder (said self.new)) }
         ensures whole { OnOk result (IsWhole (said self.old) → IsWhole (said self.new)) }
     {
-        let mut words = Words::new(words);
+        let mut words = Tokens::new(words);
         let Some(first) = words.next() else {
             return Ok(());
         };

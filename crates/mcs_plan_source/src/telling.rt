@@ -32,7 +32,7 @@ fn names_of<'a>(
 }
 
 /// Appends a word. An object, also in the word of a queue as `e1.send`, gets its name for its id.
-fn add_told(
+fn add_named(
     to: &mut Vec<u8>,
     names: &IndexMap<Vec<u8>, &[u8]>,
     word: &[u8],
@@ -60,7 +60,7 @@ fn add_words(
     for word in line.split(|byte| *byte == b' ') {
         to.extend_from_slice(between)?;
         between = b" ";
-        add_told(to, names, word)?;
+        add_named(to, names, word)?;
     }
     Ok(())
 }

@@ -6,13 +6,13 @@ ghost use Rattle.mcs_plan_source.specs.Naming.{is_letter, is_digit, is_kind_lett
 ghost use Rattle.mcs_plan_source.specs.Numbers.{number_in, number_of, ReadsNumber, TellsNoNumber};
 ghost use Rattle.mcs_plan_source.specs.Telling.{TellsNot, TellsMissing, TellsTooMany, TellsOther, TakesNumber};
 
-use crate::fault::Why;
+use crate::fault::PlanError;
 use std::alloc::{AllocError, Global};
 use std::marker::Model;
 
 /// The words of a line, and how many of them were taken.
 #[derive(Drop)]
-pub struct Words<'a> {
+pub struct Tokens<'a> {
     words: &'a [&'a str],
     taken: usize,
 }
@@ -24,7 +24,7 @@ fn word_at<'a>(words: &'a [&'a str], index: usize) -> Option<&'a str>
     words.get(index).copied()
 }
 
-impl<'a> Model for Words<'a> {
+impl<'a> Model for Tokens<'a> {
     ghost use Rattle.std.specs.Prelude.{ℕ, List, drop};
     ghost use Rattle.mcs_plan_source.specs.Naming.{texts};
 
@@ -33,12 +33,12 @@ impl<'a> Model for Words<'a> {
     ghost view = { λ w. drop w.taken (texts w.words.now) };
 }
 
-impl<'a> Words<'a> {
+impl<'a> Tokens<'a> {
     /// Returns a cursor before the first word.
-    pub fn new(words: &'a [&'a str]) -> Words<'a>
+    pub fn new(words: &'a [&'a str]) -> Tokens<'a>
         ensures { result ≡ texts words.now }
     {
-        Words { words, taken: 0 }
+        Tokens { words, taken: 0 }
     }
 
     /// Takes a word.
@@ -71,20 +71,20 @@ impl<'a> Words<'a> {
     }
 
     /// Takes a word. `Missing` if none is left.
-    pub fn need(&mut self, wanted: &'static str) -> Result<&'a str, Why>
+    pub fn need(&mut self, wanted: &'static str) -> Result<&'a str, PlanError>
         ensures word { IfOk result (λ w. self.old ≡ w.now ∷ self.new) }
-        ensures told { IfErr result (TellsMissing self.old) }
+        ensures error { IfErr result (TellsMissing self.old) }
     {
         match self.next() {
             Some(word) => Ok(word),
-            None => Err(Why::Missing { wanted }),
+            None => Err(PlanError::Missing { wanted }),
         }
     }
 
     /// Takes this word. `Missing` if none is left, `Not` for another word.
-    pub fn expect(&mut self, alloc: Global, wanted: &'static str) -> Result<(), Why>
+    pub fn expect(&mut self, alloc: Global, wanted: &'static str) -> Result<(), PlanError>
         ensures ok { OnOk result (self.old ≡ wanted.now ∷ self.new) }
-        ensures told { IfErr result (TellsOther wanted.now self.old) }
+        ensures error { IfErr result (TellsOther wanted.now self.old) }
     {
         let word = self.need(wanted)?;
         if word == wanted {
@@ -95,13 +95,13 @@ impl<'a> Words<'a> {
     }
 
     /// Fails with `TooMany` if a word is left.
-    pub fn end(&mut self, alloc: Global) -> Result<(), Why>
+    pub fn end(&mut self, alloc: Global) -> Result<(), PlanError>
         ensures ok { OnOk result (self.old ≡ []) }
-        ensures told { IfErr result (TellsTooMany self.old) }
+        ensures error { IfErr result (TellsTooMany self.old) }
     {
         match self.next() {
             None => Ok(()),
-            Some(word) => Err(Why::TooMany {
+            Some(word) => Err(PlanError::TooMany {
                 word: String::from_str(alloc, word)?,
             }),
         }
@@ -110,11 +110,16 @@ impl<'a> Words<'a> {
     /// Takes a number, in decimal or hexadecimal. `Missing` if no word is left, `Not` if it is no
     /// number or above the limit.
     #[tactic(auto, using(crate::proofs::Entries::takes_number, crate::proofs::Spelled::reads_number, crate::proofs::Spelled::too_large, crate::proofs::Spelled::no_number))]
-    pub fn number(&mut self, alloc: Global, wanted: &'static str, limit: u64) -> Result<u64, Why>
+    pub fn number(
+        &mut self,
+        alloc: Global,
+        wanted: &'static str,
+        limit: u64,
+    ) -> Result<u64, PlanError>
         ensures taken { OnOk result (TakesNumber self.old self.new) }
         ensures within { IfOk result (λ n. n ≤ limit) }
         ensures value { IfOk result (λ n. ReadsNumber limit self.old n self.new) }
-        ensures told { IfErr result (TellsNoNumber limit self.old) }
+        ensures error { IfErr result (TellsNoNumber limit self.old) }
     {
         let word = self.need(wanted)?;
         if let Some(n) = number(word) {
@@ -128,12 +133,12 @@ impl<'a> Words<'a> {
 
 /// Returns the fault for a word that is not what is wanted; OutOfMemory if the word could not be
 /// copied.
-pub fn not(alloc: Global, word: &str, wanted: &'static str) -> Why
+pub fn not(alloc: Global, word: &str, wanted: &'static str) -> PlanError
     ensures { TellsNot word.now result }
 {
     match String::from_str(alloc, word) {
-        Ok(word) => Why::Not { word, wanted },
-        Err(AllocError) => Why::OutOfMemory,
+        Ok(word) => PlanError::Not { word, wanted },
+        Err(AllocError) => PlanError::OutOfMemory,
     }
 }
 

@@ -1,4 +1,4 @@
--- A replay that took a whole script tells what that says.
+-- A replay that took a whole script has the boot and the lines that the script gives.
 use Rattle.std.proofs.Common.{◌≡◌, ◌⊎◌, inl, inr, ℕ, Bool, true, false, List, [], ◌∷◌, Option, Some, None, Result, Ok, Err, refl, ap, sym, subst, ◌∙◌}
 use Rattle.std.specs.Prelude.{fold}
 use Rattle.mcs_types.specs.declared.entry.Step.{Step}
@@ -36,32 +36,32 @@ book-boot : (b : Boot) (ss : List Step) → (book_of b ss).boot ≡ b
 unfolding book_of
 book-boot b ss = steps-boot ss (record { boot = b; lines = [] })
 
--- who answers Ok has no fault
+-- if the answer is Ok there is no fault
 no-fault : (o : Option SimFault) (f : SimFault) → o ≡ Some f → answer_of o ≡ Ok tt → ⊥
-no-fault o f e told = let told-fault : answer_of o ≡ Err f = ap answer_of e in absurd cc
+no-fault o f e answer = let answer-fault : answer_of o ≡ Err f = ap answer_of e in absurd cc
 
--- what comes of a script that was taken without a fault
+-- the boot and the lines of a script that was taken without a fault
 comes : (text : List ℕ) (s : Script Step × Option (ℕ × LineFault)) → steps text ≡ s → (c : Course) → ComesOfScript s c → answer_of c.fault ≡ Ok tt → IsScriptOf text c.stands.book
-comes text (t, None) e c (inl h) told =
+comes text (t, None) e c (inl h) answer =
     let boot : t.boot ≡ Some (book_of h.boot t.items).boot = h.said ∙ ap Some (sym (book-boot h.boot t.items)) in
     subst (λ o. IsScriptOf text o) (sym h.book) (record {
       items = t.items;
       reads = e ∙ (λ i. (record { boot = boot i; items = t.items }, None));
       makes = ap (λ b. book_of b t.items) (sym (book-boot h.boot t.items));
     })
-comes text (t, None) e c (inr h) told = absurd (no-fault c.fault fault.BookFull h.ended told)
-comes text (t, Some (line, why)) e c (inl h) told = absurd (no-fault c.fault (fault.Script line why) h.ended told)
-comes text (t, Some (line, why)) e c (inr h) told = absurd (no-fault c.fault fault.BookFull h.ended told)
+comes text (t, None) e c (inr h) answer = absurd (no-fault c.fault fault.BookFull h.ended answer)
+comes text (t, Some (line, why)) e c (inl h) answer = absurd (no-fault c.fault (fault.Script line why) h.ended answer)
+comes text (t, Some (line, why)) e c (inr h) answer = absurd (no-fault c.fault fault.BookFull h.ended answer)
 
 -- where no fault ended it, it took all
 fed-whole : (old : Going) (bytes : List ℕ) (new : Going) → Takes old bytes new → answer_of new.course.fault ≡ Ok tt → new ≡ fed old bytes
-fed-whole old bytes new (inl e) told = e
-fed-whole old bytes new (inr r) told = let stopped = ap (λ (g : Going). answer_of g.course.fault) r.stopped in cc
+fed-whole old bytes new (inl e) answer = e
+fed-whole old bytes new (inr r) answer = let stopped = ap (λ (g : Going). answer_of g.course.fault) r.stopped in cc
 
 -- the text that was fed to it from the beginning to the end is the script of its book
 pub taken : (text : List ℕ) (mid new : Going) → Takes (at_line no_line) text mid → answer_of mid.course.fault ≡ Ok tt → TakesEnd mid new → answer_of new.course.fault ≡ Ok tt
     → IsScriptOf text new.course.stands.book
-taken text mid new took fine end told = go end
+taken text mid new took fine end answer = go end
   where
     whole : mid ≡ fed (at_line no_line) text
     whole = fed-whole (at_line no_line) text mid took fine
@@ -70,5 +70,5 @@ taken text mid new took fine end told = go end
     go (inl e) =
         let course : new.course ≡ ended (fed (at_line no_line) text) = ap (λ (g : Going). g.course) e ∙ ap ended whole in
         subst (λ (c : Course). IsScriptOf text c.stands.book) (sym course)
-        (comes text (steps text) refl (ended (fed (at_line no_line) text)) (fed-as-read text) (subst (λ (c : Course). answer_of c.fault ≡ Ok tt) course told))
-    go (inr (n, e)) = absurd (no-fault new.course.fault fault.OutOfMemory (ap (λ (g : Going). g.course.fault) e) told)
+        (comes text (steps text) refl (ended (fed (at_line no_line) text)) (fed-as-read text) (subst (λ (c : Course). answer_of c.fault ≡ Ok tt) course answer))
+    go (inr (n, e)) = absurd (no-fault new.course.fault fault.OutOfMemory (ap (λ (g : Going). g.course.fault) e) answer)

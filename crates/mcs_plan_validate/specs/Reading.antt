@@ -4,7 +4,7 @@ use Rattle.mcs_types.specs.declared.entry.Step.{Step}
 use Rattle.mcs_book.specs.Boots.{Boot}
 use Rattle.mcs_book.specs.History.{Book, book_of, log_of}
 use Rattle.mcs_phases.specs.Script.{steps}
-use Rattle.mcs_plan_layout.specs.declared.laid.Laid.{Laid}
+use Rattle.mcs_plan_layout.specs.declared.laid.PlanLayout.{PlanLayout}
 use Rattle.mcs_plan_layout.specs.Naming.{cores_of}
 use Rattle.mcs_plan_layout.specs.Boot.{boot_of}
 use Rattle.mcs_plan_compile.specs.declared.script.Script.{Script}
@@ -21,20 +21,20 @@ abbrev pub IsScriptOf : List ℕ → Option Book → Type 0
 IsScriptOf text (Some book) = IsScript text book
 IsScriptOf text None = ⊥
 
--- a boot has the cores and the lines, in order, that a script says
+-- a boot has the cores and the lines that a script gives, in order
 pub record IsBootOf (s : Script) (boot : Boot) : Type 0 where
   pub cores : boot.cores ≡ s.cores
   pub lines : reverse boot.lines ≡ s.boot.items
 
 -- a boot is that of a plan: its cores, and then in order what the plan makes, fills and binds, and
 -- nothing else
-pub record IsPlansBoot (laid : Laid) (boot : Boot) : Type 0 where
+pub record IsPlansBoot (laid : PlanLayout) (boot : Boot) : Type 0 where
   pub cores : boot.cores ≡ cores_of laid.plan.cores laid.plan.contexts.items
   pub lines : reverse boot.lines ≡ boot_of laid.plan laid.layouts.items
 
 -- a text is a script of steps without a fault, its boot is that of the plan, and after this each
 -- name of each thread leads to what its slot holds
-pub record IsVouched (text : List ℕ) (laid : Laid) : Type 0 where
+pub record IsVouched (text : List ℕ) (laid : PlanLayout) : Type 0 where
   pub book : Book
   pub script : IsScript text book
   pub boot : IsPlansBoot laid book.boot

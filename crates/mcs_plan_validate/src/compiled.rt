@@ -4,7 +4,7 @@ ghost use Rattle.mcs_plan_compile.specs.Scripts.{HasBootOfPlan};
 ghost use Rattle.mcs_plan_validate.specs.Reading.{IsBootOf, IsVouched};
 
 use crate::fault::CompileFault;
-use crate::leading::astray;
+use crate::leading::first_unresolved;
 use crate::reading::{are_same_lines, booted, take_script};
 use mcs_book::Book;
 use mcs_plan_compile::{Script, compile, write_boot, write_lines, write_script};
@@ -25,14 +25,14 @@ pub struct Compiled {
     pub users: Vec<u8>,
 }
 
-/// Returns whether a book has the boot that a script says.
+/// Returns whether a book has the boot that a script gives.
 fn has_boot(book: &Book, script: &Script) -> bool
     ensures { result ≡ true → IsBootOf script.now book.now.book.boot }
 {
     book.cores() == script.cores && are_same_lines(book.boot(), &script.boot)
 }
 
-/// Fails with `OtherBoot` if the boot of a book is not the one that a script says.
+/// Fails with `OtherBoot` if the boot of a book is not the one that a script gives.
 fn keeps_boot(book: &Book, script: &Script) -> Result<(), CompileFault>
     ensures { OnOk result (IsBootOf script.now book.now.book.boot) }
 {
@@ -42,7 +42,8 @@ fn keeps_boot(book: &Book, script: &Script) -> Result<(), CompileFault>
     Err(CompileFault::OtherBoot)
 }
 
-/// Reads a text as a script, compares its boot with the plan's, and looks up each name after it.
+/// Reads a text as a script, compares its boot with the plan's, and looks up each name after the
+/// boot.
 fn vouch(alloc: Global, text: &[u8], script: &Script) -> Result<(), CompileFault>
     requires { HasBootOfPlan script.now }
     ensures { OnOk result (IsVouched text.now script.now.laid) }
@@ -57,7 +58,7 @@ fn vouch(alloc: Global, text: &[u8], script: &Script) -> Result<(), CompileFault
     };
     keeps_boot(book, script)?;
     let kernel = booted(alloc, book)?;
-    match astray(&kernel, tables) {
+    match first_unresolved(&kernel, tables) {
         None => Ok(()),
         Some(named) => Err(CompileFault::Astray(named.name.clone()?)),
     }

@@ -97,7 +97,10 @@ fn thread_at(place: usize) -> ObjId
 }
 
 /// The first name that does not lead to what its slot holds.
-pub fn astray<'a, L: Lines>(kernel: &Kernel<L>, tables: &'a Vec<Vec<Named>>) -> Option<&'a Named>
+pub fn first_unresolved<'a, L: Lines>(
+    kernel: &Kernel<L>,
+    tables: &'a Vec<Vec<Named>>,
+) -> Option<&'a Named>
     requires { length tables.now.items < 1000 }
     ensures { IfNone result (AllLead (log_of kernel.now) tables.entry.now.items) }
 {

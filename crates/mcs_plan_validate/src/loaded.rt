@@ -7,7 +7,7 @@ use crate::compiled::{Compiled, compile_text};
 use crate::fault::CompileFault;
 use crate::origins::origins_of;
 use mcs_plan_domains::{Lowered, lower};
-use mcs_plan_source::{PlanFault, Why};
+use mcs_plan_source::{PlanError, PlanFault};
 use std::alloc::{AllocError, Global};
 
 /// The script of a plan, and for each of its lines the number of the plan's line from which it
@@ -38,7 +38,7 @@ fn in_lines(fault: CompileFault, lines: &[u64]) -> CompileFault {
         CompileFault::Plan(PlanFault { line, why }) => {
             let line = line_in(lines, line);
             let why = match why {
-                Why::Unclosed { opened } => Why::Unclosed {
+                PlanError::Unclosed { opened } => PlanError::Unclosed {
                     opened: line_in(lines, opened),
                 },
                 why => why,

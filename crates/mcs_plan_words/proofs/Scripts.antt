@@ -2,12 +2,12 @@
 use Rattle.std.specs.Prelude.{◌≡◌, ℕ, true, false, List, ◌++◌}
 use Rattle.std.proofs.Common.{ap}
 use Rattle.mcs_text.specs.Reading.{lines_of}
-use Rattle.mcs_plan_layout.specs.declared.laid.Laid.{Laid}
+use Rattle.mcs_plan_layout.specs.declared.laid.PlanLayout.{PlanLayout}
 use Rattle.mcs_plan_validate.specs.Reading.{IsVouched}
 use Rattle.mcs_plan_words.specs.Alignment.{HasLinesOf, kept}
 use Rattle.mcs_plan_words.specs.Scripts.{IsScriptOfPlan}
 
-pub script_of_plan : (laid : Laid) (read users text : List ℕ) → text ≡ read ++ users → IsVouched read laid → IsScriptOfPlan text
+pub script_of_plan : (laid : PlanLayout) (read users text : List ℕ) → text ≡ read ++ users → IsVouched read laid → IsScriptOfPlan text
 script_of_plan laid read users text is vouched = record {
   laid = laid;
   read = read;

@@ -1,2 +1,3 @@
 pub mod Alignment
+pub mod Ranges
 pub mod Scripts

@@ -2,7 +2,7 @@
 use crate::entry_forms::{form_of, missing_of};
 use mcs_lab_forms::meant_by;
 use mcs_plan_source::{
-    Plan, PlanFault, Shown, Why, add_word, singular, split_comment, split_words,
+    Plan, PlanError, PlanFault, Shown, add_word, singular, split_comment, split_words,
 };
 use std::alloc::{AllocError, Global};
 use std::str;
@@ -201,20 +201,20 @@ fn twice(alloc: Global, plan: &[u8], line: u64, word: &str) -> Result<String, Al
 pub fn message_of(alloc: Global, plan: &[u8], fault: &PlanFault) -> Result<String, AllocError> {
     let line = fault.line;
     match &fault.why {
-        Why::NoName {
+        PlanError::NoName {
             word,
             wanted,
             there,
         } => no_name(alloc, word.as_str(), wanted, there.as_str()),
-        Why::NoCapability {
+        PlanError::NoCapability {
             holder,
             word,
             there,
         } => no_capability(alloc, holder.as_str(), word.as_str(), there.as_str()),
-        Why::Missing { wanted } => missing(alloc, words_at(alloc, plan, line), wanted),
-        Why::Unknown { word } => unknown(alloc, word.as_str()),
-        Why::Not { word, wanted } => not_wanted(alloc, word.as_str(), wanted),
-        Why::Twice { word } => twice(alloc, plan, line, word.as_str()),
+        PlanError::Missing { wanted } => missing(alloc, words_at(alloc, plan, line), wanted),
+        PlanError::Unknown { word } => unknown(alloc, word.as_str()),
+        PlanError::Not { word, wanted } => not_wanted(alloc, word.as_str(), wanted),
+        PlanError::Twice { word } => twice(alloc, plan, line, word.as_str()),
         why => format!(in alloc; "{why}"),
     }
 }

@@ -22,7 +22,7 @@ pub enum Form {
 pub(crate) struct Found<'a> {
     pub(crate) before: &'a [u8],
     pub(crate) number: u64,
-    pub(crate) behind: &'a [u8],
+    pub(crate) after: &'a [u8],
 }
 
 /// Returns how many digits a text begins with.
@@ -48,11 +48,11 @@ fn number_of(digits: &[u8]) -> Option<u64> {
 /// Returns the number at this position of a line.
 fn found_at(line: &[u8], place: usize) -> Option<Found<'_>> {
     let (before, rest) = line.split_at_checked(place)?;
-    let (digits, behind) = rest.split_at_checked(count_digits(rest))?;
+    let (digits, after) = rest.split_at_checked(count_digits(rest))?;
     Some(Found {
         before,
         number: number_of(digits)?,
-        behind,
+        after,
     })
 }
 
@@ -66,7 +66,7 @@ fn verdict_place(line: &[u8]) -> Option<usize> {
 }
 
 /// Returns how many bytes precede the number in a line that begins with `head`.
-fn place_behind(line: &[u8], head: &[u8]) -> Option<usize> {
+fn place_after(line: &[u8], head: &[u8]) -> Option<usize> {
     line.strip_prefix(head)?;
     Some(head.len())
 }
@@ -74,18 +74,18 @@ fn place_behind(line: &[u8], head: &[u8]) -> Option<usize> {
 /// Returns how many bytes precede the number in a line of a report, if it has one.
 fn place_of(form: Form, line: &[u8]) -> Option<usize> {
     match form {
-        Form::Lines => place_behind(line, b"line "),
-        Form::Json => place_behind(line, b"{\"line\":"),
-        Form::NoOrders => place_behind(line, b"mcslab: line "),
+        Form::Lines => place_after(line, b"line "),
+        Form::Json => place_after(line, b"{\"line\":"),
+        Form::NoOrders => place_after(line, b"mcslab: line "),
         Form::State | Form::Orders => None,
         Form::Tap => {
             if let Some(place) = verdict_place(line) {
                 return Some(place);
             }
-            if let Some(place) = place_behind(line, b"  line: ") {
+            if let Some(place) = place_after(line, b"  line: ") {
                 return Some(place);
             }
-            place_behind(line, b"Bail out! line ")
+            place_after(line, b"Bail out! line ")
         }
     }
 }

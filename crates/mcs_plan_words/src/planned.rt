@@ -6,7 +6,7 @@ ghost use Rattle.mcs_plan_words.specs.Scripts.{IsScriptOfPlan};
 
 use crate::alignment::has_lines_of;
 use crate::numbering::{Form, last_line};
-use crate::retelling::Retold;
+use crate::retelling::Reworded;
 use crate::speaking::{Voice, step_texts};
 use crate::spelling::{Spelling, hexadecimals};
 use crate::stranger::Stranger;
@@ -199,6 +199,6 @@ impl<'a> Planned<'a> {
         form: Form,
     ) -> Result<Vec<u8>, AllocError> {
         let Numbered { text, numbers } = script;
-        Retold::new(alloc, self.voice(), text, numbers, self.plan)?.retell(alloc, report, form)
+        Reworded::new(alloc, self.voice(), text, numbers, self.plan)?.retell(alloc, report, form)
     }
 }

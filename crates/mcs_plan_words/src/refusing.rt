@@ -1,6 +1,6 @@
 //! Why a plan becomes no script, with the line that is refused and what may help.
 use crate::advice::message_of;
-use mcs_plan_source::{PlanFault, Why};
+use mcs_plan_source::{PlanError, PlanFault};
 use mcs_plan_validate::CompileFault;
 use std::alloc::{AllocError, Global};
 
@@ -9,7 +9,7 @@ pub fn line_of_plan(fault: &CompileFault) -> Option<u64> {
     match fault {
         CompileFault::Plan(
             PlanFault {
-                why: Why::OutOfMemory,
+                why: PlanError::OutOfMemory,
                 ..
             },
         ) => None,

@@ -7,7 +7,7 @@ use std::str;
 
 /// A plan, and its script.
 #[derive(Drop)]
-pub(crate) struct Retold<'a> {
+pub(crate) struct Reworded<'a> {
     voice: Voice<'a>,
     /// The lines of the script, and for each the number of the plan's line from which it came.
     steps: Vec<&'a [u8]>,
@@ -46,19 +46,19 @@ struct Standing<'a> {
     head: &'a str,
     number: &'a str,
     entry: &'a str,
-    behind: &'a str,
+    after: &'a str,
 }
 
 /// Returns the parts of a line that says how an order leaves a user, if it is one.
 fn standing_in(line: &str) -> Option<Standing<'_>> {
     let (head, rest) = line.split_once(" entry ")?;
     let (number, rest) = rest.split_once(" (")?;
-    let (entry, behind) = rest.split_once(")")?;
+    let (entry, after) = rest.split_once(")")?;
     Some(Standing {
         head,
         number,
         entry,
-        behind,
+        after,
     })
 }
 
@@ -67,18 +67,14 @@ fn standing_in(line: &str) -> Option<Standing<'_>> {
 struct Row<'a> {
     head: &'a str,
     entry: &'a str,
-    behind: &'a str,
+    after: &'a str,
 }
 
 /// Returns the parts of a line that says how an entry was answered, if it is one.
 fn row_in(line: &str) -> Option<Row<'_>> {
     let (head, rest) = line.split_once(": ")?;
-    let (entry, behind) = rest.split_once(" ->")?;
-    Some(Row {
-        head,
-        entry,
-        behind,
-    })
+    let (entry, after) = rest.split_once(" ->")?;
+    Some(Row { head, entry, after })
 }
 
 /// Returns the index of the thread with which a line begins, after blanks.
@@ -87,7 +83,7 @@ fn thread_of(line: &str) -> Option<usize> {
     thread_place(word.as_bytes())
 }
 
-impl<'a> Retold<'a> {
+impl<'a> Reworded<'a> {
     /// Returns a plan and its script, by what speaks of it and by the texts of both.
     pub(crate) fn new(
         alloc: Global,
@@ -95,8 +91,8 @@ impl<'a> Retold<'a> {
         text: &'a [u8],
         numbers: &'a [u64],
         plan: &'a [u8],
-    ) -> Result<Retold<'a>, AllocError> {
-        Ok(Retold {
+    ) -> Result<Reworded<'a>, AllocError> {
+        Ok(Reworded {
             voice,
             steps: text.split(|byte| *byte == b'\n').collect(alloc)?,
             numbers,
@@ -137,16 +133,16 @@ impl<'a> Retold<'a> {
     }
 
     /// Appends what follows the number of a line.
-    fn add_behind(
+    fn add_after(
         &self,
         alloc: Global,
         to: &mut Vec<u8>,
         form: Form,
         line: u64,
-        behind: &[u8],
+        after: &[u8],
     ) -> Result<(), AllocError> {
-        let Some(said) = behind.strip_prefix(b": ".as_slice()) else {
-            return to.extend_from_slice(behind);
+        let Some(said) = after.strip_prefix(b": ".as_slice()) else {
+            return to.extend_from_slice(after);
         };
         to.extend_from_slice(b": ")?;
         match form {
@@ -171,7 +167,7 @@ impl<'a> Retold<'a> {
         to.extend_from_slice(b" (")?;
         speaker.add_entry(alloc, to, line.entry.as_bytes())?;
         to.extend_from_slice(b")")?;
-        add_text(alloc, to, self.voice, line.behind.as_bytes())
+        add_text(alloc, to, self.voice, line.after.as_bytes())
     }
 
     /// Appends the answers of an entry.
@@ -186,7 +182,7 @@ impl<'a> Retold<'a> {
         to.extend_from_slice(b": ")?;
         speaker.add_entry(alloc, to, line.entry.as_bytes())?;
         to.extend_from_slice(b" ->")?;
-        add_text(alloc, to, self.voice, line.behind.as_bytes())
+        add_text(alloc, to, self.voice, line.after.as_bytes())
     }
 
     /// Adds a line of a report on all orders that begins with a thread.
@@ -261,7 +257,7 @@ impl<'a> Retold<'a> {
         let number = number_in(self.numbers, found.number);
         let digits = format!(in alloc; "{number}")?;
         to.extend_from_slice(digits.as_bytes())?;
-        self.add_behind(alloc, to, form, found.number, found.behind)?;
+        self.add_after(alloc, to, form, found.number, found.after)?;
         Ok(found.number)
     }
 

@@ -259,7 +259,7 @@ fn run_len(text: &[u8], is_word: bool) -> usize {
 }
 
 /// Returns a text after the name in parentheses with which it begins, if it is this one.
-fn behind_name<'a>(text: &'a [u8], name: &str) -> &'a [u8] {
+fn after_name<'a>(text: &'a [u8], name: &str) -> &'a [u8] {
     let Some(inner) = text.strip_prefix(b" (".as_slice()) else {
         return text;
     };
@@ -310,7 +310,7 @@ pub(crate) fn add_text(
         if let Some(named) = named_word(voice.script, word) {
             to.extend_from_slice(named.name.as_bytes())?;
             to.extend_from_slice(named.end)?;
-            left = behind_name(rest, named.name);
+            left = after_name(rest, named.name);
         } else {
             next = add_other(alloc, to, voice, next, word)?;
         }

@@ -10,7 +10,7 @@ use Rattle.mcs_sim.specs.Trace.{trace}
 use Rattle.mcs_types.specs.declared.entry.Step.{Step}
 use Rattle.mcs_text.specs.declared.fault.LineFault.{LineFault}
 use Rattle.mcs_phases.specs.Script.{Script, steps}
-use Rattle.mcs_sim.specs.Runs.{script_trace, told, written}
+use Rattle.mcs_sim.specs.Runs.{script_trace, written_by, written}
 use Rattle.mcs_book.proofs.Books.ReplayLaws.{legal-replayed}
 use Rattle.mcs_round_trip.specs.Readable.{IsReadable}
 use Rattle.mcs_round_trip.proofs.Lines.{lines_forms, trace_forms, lines_of-trace}
@@ -47,4 +47,4 @@ legal-again b is =
 -- and so it is written again
 pub legal-written : (b : Book) → IsReadable b → written (trace b) ≡ trace b
 unfolding script_trace written
-legal-written b is = ap (λ (r : Script Step × Option (ℕ × LineFault)). told r.0 r.1) (legal-again b is) ∙ ap trace (legal-replayed b is.legal)
+legal-written b is = ap (λ (r : Script Step × Option (ℕ × LineFault)). written_by r.0 r.1) (legal-again b is) ∙ ap trace (legal-replayed b is.legal)

@@ -57,9 +57,9 @@ line-made R l h =
     let o : Outcome = does R l.step.core l.step.thread l.step.entry in
     let one : Line = record { step = l.step; answer = o.answer; records = o.records } in
     let two : Line = record { step = l.step; answer = l.answer; records = o.records } in
-    let told : one ≡ two = ap (λ a. record { step = l.step; answer = a; records = o.records }) (sym h.answer) in
+    let entered : one ≡ two = ap (λ a. record { step = l.step; answer = a; records = o.records }) (sym h.answer) in
     let made : two ≡ l = ap (λ rs. record { step = l.step; answer = l.answer; records = rs }) (sym h.records) in
-    told ∙ made
+    entered ∙ made
 
 -- who may enter is accepted where there is room
 let-in : (b : Book) (core : CoreId) (t : ObjId) → may_enter (log_of b) core t ≡ true → has_room b ≡ true

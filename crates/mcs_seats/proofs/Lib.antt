@@ -2,5 +2,5 @@ pub mod Counting
 pub mod Cutting
 pub mod Notes
 pub mod Seating
-pub mod Told
+pub mod Entered
 pub mod Trails

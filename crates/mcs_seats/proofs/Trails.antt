@@ -9,9 +9,9 @@ use Rattle.mcs_kernel.specs.Faults.{fault_of}
 use Rattle.mcs_kernel.specs.declared.fault.EnterFault.{EnterFault}
 use Rattle.mcs_seats.specs.declared.call.Answered.{Answered}
 use Rattle.mcs_seats.specs.declared.call.Outcome.{Outcome}
-use Rattle.mcs_seats.specs.declared.call.Outcome.TheVariants.{Told, Away}
+use Rattle.mcs_seats.specs.declared.call.Outcome.TheVariants.{Entered, Away}
 use Rattle.mcs_seats.specs.declared.call.Call.{Call}
-use Rattle.mcs_seats.specs.Settling.{Note, note_of, notes_from, cut, next_note, next_line, later_notes, told_note, IsRightAt, IsRight, AreRight, IsTornAt, notes_after, lines_after}
+use Rattle.mcs_seats.specs.Settling.{Note, note_of, notes_from, cut, next_note, next_line, later_notes, entered_note, IsRightAt, IsRight, AreRight, IsTornAt, notes_after, lines_after}
 use Rattle.mcs_seats.specs.Trails.{Trail, past_line, notes_ahead, AreRightFrom, IsTornFrom, AreRightTo, CameLater, IsLater, IsTornOf}
 use Rattle.mcs_seats.proofs.Notes.{notes-bounded, notes-foreign, notes-own, notes-none}
 
@@ -61,9 +61,9 @@ record Leads (w : Trail) (x : Call) (o : Outcome) (to : ℕ) : Type 0 where
   pub notes : notes_after o (notes_ahead w) ≡ notes_from w.book w.core to
 
 -- what holds there, said by what became of the call
-behind : (w : Trail) (x : Call) (o : Outcome) (to : ℕ) (P : List Note → ℕ → Type 0) → Leads w x o to
+after : (w : Trail) (x : Call) (o : Outcome) (to : ℕ) (P : List Note → ℕ → Type 0) → Leads w x o to
     → P (notes_from w.book w.core to) to → P (notes_after o (notes_ahead w)) (lines_after o)
-behind w x o to P led h =
+after w x o to P led h =
     subst (λ (n : ℕ). P (notes_after o (notes_ahead w)) n) (sym led.lines)
     (subst (λ (ns : List Note). P ns to) (sym led.notes) h)
 
@@ -77,12 +77,12 @@ right-more w k x to h here led =
     record {
       few = omega (arith, lt);
       right = λ r.
-          let rest = behind w x x.outcome to (λ ns i. AreRight w.book w.core ns i later) led r in
+          let rest = after w x x.outcome to (λ ns i. AreRight w.book w.core ns i later) led r in
           h.right (subst (λ ys. AreRightFrom w ys) (sym next) (led.right, rest));
       torn = λ n t.
           let some : 1 ≤ n = torn-some w.book w.core (notes_from w.book w.core to) to later n t in
           let back : n ≡ n + 1 - 1 = omega arith in
-          let rest = behind w x x.outcome to (λ ns i. IsTornAt w.book w.core ns i later (n + 1 - 1)) led
+          let rest = after w x x.outcome to (λ ns i. IsTornAt w.book w.core ns i later (n + 1 - 1)) led
           (subst (λ i. IsTornAt w.book w.core (notes_from w.book w.core to) to later i) back t) in
           let whole : IsTornFrom w (drop k w.calls) (n + 1) =
           subst (λ ys. IsTornFrom w ys (n + 1)) (sym next) (inr (led.right, rest, omega (arith, some))) in
@@ -120,13 +120,13 @@ fault-wrong w x n f away here other right =
 -- a call that comes later is right at a line where it is right after it
 later-back : (b : Book) (c : CoreId) (notes : List Note) (at : ℕ) (x : Call) (o : Outcome)
     → IsRightAt b c notes (at + 1) x o → IsRightAt b c notes at x o
-later-back b c notes at x (Told a) right = right
+later-back b c notes at x (Entered a) right = right
 later-back b c notes at x (Away n f) right = let least = right.0 in (omega (arith, least), right.1, right.2)
 
 -- and after it where it is right there
 later-on : (b : Book) (c : CoreId) (notes : List Note) (at : ℕ) (x : Call) (o : Outcome) → CameLater at o
     → IsRightAt b c notes at x o → IsRightAt b c notes (at + 1) x o
-later-on b c notes at x (Told a) later right = right
+later-on b c notes at x (Entered a) later right = right
 later-on b c notes at x (Away n f) later right = (omega (arith, later), right.1, right.2)
 
 all-back : (b : Book) (c : CoreId) (notes : List Note) (at : ℕ) (xs : List Call)
@@ -157,27 +157,27 @@ past-foreign w k h later same =
 
 -- past a line of the core's, which the next call was told
 past-own : (w : Trail) (k : ℕ) (x : Call) (a : Answered) (n : Note) → AreRightTo w k → IsCallAt w k x
-    → x.outcome ≡ Told a → n.line ≡ w.at → n ≡ told_note x a
+    → x.outcome ≡ Entered a → n.line ≡ w.at → n ≡ entered_note x a
     → notes_ahead w ≡ n ∷ notes_from w.book w.core (w.at + 1) → AreRightTo (past_line w) (k + 1)
-past-own w k x a n h call told number same notes =
-    let right : IsRightAt w.book w.core (notes_ahead w) w.at x (Told a) =
-    subst (λ ns. next_note ns ≡ Some (told_note x a)) (sym notes) (ap Some same) in
+past-own w k x a n h call entered number same notes =
+    let right : IsRightAt w.book w.core (notes_ahead w) w.at x (Entered a) =
+    subst (λ ns. next_note ns ≡ Some (entered_note x a)) (sym notes) (ap Some same) in
     let line : a.line ≡ w.at = sym (ap (λ (m : Note). m.line) same) ∙ number in
-    let led : Leads w x (Told a) (w.at + 1) = record {
+    let led : Leads w x (Entered a) (w.at + 1) = record {
       right = right;
       lines = ap (λ i. i + 1) line;
       notes = ap (λ ns. later_notes ns) notes;
     } in
-    right-more w k x (w.at + 1) h call (subst (λ o. Leads w x o (w.at + 1)) (sym told) led)
+    right-more w k x (w.at + 1) h call (subst (λ o. Leads w x o (w.at + 1)) (sym entered) led)
 
 -- where the core is told a line, no call is right that was told something else
-pub other-wrong : (w : Trail) (x : Call) (a : Answered) (n : Note) (ns : List Note) → x.outcome ≡ Told a
-    → ¬ (n ≡ told_note x a) → notes_ahead w ≡ n ∷ ns → ¬ (IsRight w.book w.core (notes_ahead w) w.at x)
-other-wrong w x a n ns told other notes right =
-    let r : next_note (notes_ahead w) ≡ Some (told_note x a) =
-    subst (λ o. IsRightAt w.book w.core (notes_ahead w) w.at x o) told right in
-    let it : Some n ≡ Some (told_note x a) = subst (λ ms. next_note ms ≡ Some (told_note x a)) notes r in
-    let same : n ≡ told_note x a = cc in
+pub other-wrong : (w : Trail) (x : Call) (a : Answered) (n : Note) (ns : List Note) → x.outcome ≡ Entered a
+    → ¬ (n ≡ entered_note x a) → notes_ahead w ≡ n ∷ ns → ¬ (IsRight w.book w.core (notes_ahead w) w.at x)
+other-wrong w x a n ns entered other notes right =
+    let r : next_note (notes_ahead w) ≡ Some (entered_note x a) =
+    subst (λ o. IsRightAt w.book w.core (notes_ahead w) w.at x o) entered right in
+    let it : Some n ≡ Some (entered_note x a) = subst (λ ms. next_note ms ≡ Some (entered_note x a)) notes r in
+    let same : n ≡ entered_note x a = cc in
     other same
 
 -- nor one that was skipped later
@@ -190,18 +190,18 @@ late-wrong w x m f n ns away late number notes right =
     absurd (omega (arith, before, number, late))
 
 -- nor one that was told something, where nothing is told
-pub untold-wrong : (w : Trail) (x : Call) (a : Answered) → x.outcome ≡ Told a → notes_ahead w ≡ []
+pub entered-wrong : (w : Trail) (x : Call) (a : Answered) → x.outcome ≡ Entered a → notes_ahead w ≡ []
     → ¬ (IsRight w.book w.core (notes_ahead w) w.at x)
-untold-wrong w x a told none right =
-    let r : next_note (notes_ahead w) ≡ Some (told_note x a) =
-    subst (λ o. IsRightAt w.book w.core (notes_ahead w) w.at x o) told right in
-    let no : None ≡ Some (told_note x a) = subst (λ ms. next_note ms ≡ Some (told_note x a)) none r in
+entered-wrong w x a entered none right =
+    let r : next_note (notes_ahead w) ≡ Some (entered_note x a) =
+    subst (λ o. IsRightAt w.book w.core (notes_ahead w) w.at x o) entered right in
+    let no : None ≡ Some (entered_note x a) = subst (λ ms. next_note ms ≡ Some (entered_note x a)) none r in
     absurd cc
 
 -- nor one that was skipped after the last line
-pub behind-wrong : (w : Trail) (x : Call) (m : ℕ) (f : EnterFault) → x.outcome ≡ Away m f → w.at < m
+pub after-wrong : (w : Trail) (x : Call) (m : ℕ) (f : EnterFault) → x.outcome ≡ Away m f → w.at < m
     → w.at ≡ length w.book.lines + 1 → notes_ahead w ≡ [] → ¬ (IsRight w.book w.core (notes_ahead w) w.at x)
-behind-wrong w x m f away late end none right =
+after-wrong w x m f away late end none right =
     let r : IsRightAt w.book w.core (notes_ahead w) w.at x (Away m f) =
     subst (λ o. IsRightAt w.book w.core (notes_ahead w) w.at x o) away right in
     let before : m ≤ length w.book.lines + 1 = subst (λ ms. m ≤ next_line w.book ms) none r.1 in
@@ -217,8 +217,8 @@ ended-torn w k x h later call end =
   where
     go : (o : Outcome) → x.outcome ≡ o → CameLater w.at o → notes_ahead w ≡ []
         → ¬ (IsRight w.book w.core (notes_ahead w) w.at x)
-    go (Told a) told came none = untold-wrong w x a told none
-    go (Away m f) away came none = behind-wrong w x m f away came end none
+    go (Entered a) entered came none = entered-wrong w x a entered none
+    go (Away m f) away came none = after-wrong w x m f away came end none
 
 pub ended-torn-any : (w : Trail) (k : ℕ) → AreRightTo w k → IsLater w.at (drop k w.calls) → k < length w.calls
     → w.at ≡ length w.book.lines + 1 → IsTornOf w (k + 1)
@@ -244,20 +244,20 @@ pub record IsBeforeOwn (w : Trail) (k : ℕ) (l : Line) : Type 0 where
 
 module _ (w : Trail) (k : ℕ) (l : Line) (before : IsBeforeOwn w k l) where
   -- the core is told it
-  told-next : notes_ahead w ≡ note_of w.at l ∷ notes_from w.book w.core (w.at + 1)
-  told-next = notes-own w.book w.core w.at l before.some before.is before.own
+  note-next : notes_ahead w ≡ note_of w.at l ∷ notes_from w.book w.core (w.at + 1)
+  note-next = notes-own w.book w.core w.at l before.some before.is before.own
 
   -- past the line, where the next call was told it
-  pub line-own : (x : Call) (a : Answered) → IsCallAt w k x → x.outcome ≡ Told a → note_of w.at l ≡ told_note x a
+  pub line-own : (x : Call) (a : Answered) → IsCallAt w k x → x.outcome ≡ Entered a → note_of w.at l ≡ entered_note x a
       → AreRightTo (past_line w) (k + 1)
-  line-own x a call told same = past-own w k x a (note_of w.at l) before.right call told refl same told-next
+  line-own x a call entered same = past-own w k x a (note_of w.at l) before.right call entered refl same note-next
 
   -- where the next call was told something else
-  pub line-other : (x : Call) (a : Answered) → IsCallAt w k x → x.outcome ≡ Told a → ¬ (note_of w.at l ≡ told_note x a)
+  pub line-other : (x : Call) (a : Answered) → IsCallAt w k x → x.outcome ≡ Entered a → ¬ (note_of w.at l ≡ entered_note x a)
       → IsTornOf w (k + 1)
-  line-other x a call told other =
+  line-other x a call entered other =
       wrong-torn w k x before.right call
-      (other-wrong w x a (note_of w.at l) (notes_from w.book w.core (w.at + 1)) told other told-next)
+      (other-wrong w x a (note_of w.at l) (notes_from w.book w.core (w.at + 1)) entered other note-next)
 
   -- where the next call was skipped after it
   pub line-late : (x : Call) (m : ℕ) (f : EnterFault) → IsCallAt w k x → x.outcome ≡ Away m f → IsTornOf w (k + 1)
@@ -265,10 +265,10 @@ module _ (w : Trail) (k : ℕ) (l : Line) (before : IsBeforeOwn w k l) where
       let came : CameLater w.at x.outcome = subst (λ ys. IsLater w.at ys) (next-call w.calls k x call.few call.is) before.later in
       let late : w.at < m = subst (λ o. CameLater w.at o) away came in
       wrong-torn w k x before.right call
-      (late-wrong w x m f (note_of w.at l) (notes_from w.book w.core (w.at + 1)) away late refl told-next)
+      (late-wrong w x m f (note_of w.at l) (notes_from w.book w.core (w.at + 1)) away late refl note-next)
 
   -- if there is no call
   pub line-left : length w.calls ≤ k → IsTornOf w (k + 1)
   line-left le =
       left-torn w k before.right le
-      (λ none. let no : note_of w.at l ∷ notes_from w.book w.core (w.at + 1) ≡ [] = sym told-next ∙ none in absurd cc)
+      (λ none. let no : note_of w.at l ∷ notes_from w.book w.core (w.at + 1) ≡ [] = sym note-next ∙ none in absurd cc)

@@ -9,7 +9,7 @@ use Rattle.mcs_book.specs.Table.{does}
 use Rattle.mcs_kernel.specs.Faults.{fault_of, with_entry}
 use Rattle.mcs_seats.specs.declared.call.Answered.{Answered}
 use Rattle.mcs_seats.specs.declared.call.Outcome.{Outcome}
-use Rattle.mcs_seats.specs.declared.call.Outcome.TheVariants.{Told, Away}
+use Rattle.mcs_seats.specs.declared.call.Outcome.TheVariants.{Entered, Away}
 use Rattle.mcs_seats.specs.declared.call.Call.{Call}
 use Rattle.mcs_seats.specs.declared.call.Turned.{Turned}
 use Rattle.mcs_seats.specs.declared.call.Turned.TheVariants as turned
@@ -20,18 +20,18 @@ pub record Seat : Type 0 where
   pub calls : List Call
 
 -- how many lines an outcome reported
-abbrev pub lines_told : Outcome → ℕ
-lines_told (Told a) = 1
-lines_told (Away n f) = 0
+abbrev pub outcome_lines : Outcome → ℕ
+outcome_lines (Entered a) = 1
+outcome_lines (Away n f) = 0
 
 -- how many lines were reported
-abbrev pub told : List Call → ℕ
-told [] = 0
-told (c ∷ cs) = lines_told c.outcome + told cs
+abbrev pub count_entered : List Call → ℕ
+count_entered [] = 0
+count_entered (c ∷ cs) = outcome_lines c.outcome + count_entered cs
 
 -- how many lines were reported to these seats
-abbrev pub told_by : List Seat → ℕ
-told_by seats = sum_by (λ (s : Seat). told s.calls) seats
+abbrev pub count_entered_by : List Seat → ℕ
+count_entered_by seats = sum_by (λ (s : Seat). count_entered s.calls) seats
 
 -- a seat with one call more
 abbrev pub with_call : Seat → ObjId → Entry → Outcome → Seat
@@ -39,7 +39,7 @@ with_call s t e o = record s { calls = (record { thread = t; entry = e; outcome 
 
 -- the seat after an entry with this result
 abbrev pub noted : Seat → ObjId → Entry → Result Answered Turned → Seat
-noted s t e (Ok a) = with_call s t e (Told a)
+noted s t e (Ok a) = with_call s t e (Entered a)
 noted s t e (Err (turned.Away n f)) = with_call s t e (Away n f)
 noted s t e (Err turned.OutOfMemory) = s
 

@@ -9,9 +9,9 @@ use Rattle.mcs_types.specs.declared.entry.Answer.{Answer}
 use Rattle.mcs_book.specs.Boots.{Boot}
 use Rattle.mcs_book.specs.History.{Book, Line, IsLegal}
 use Rattle.mcs_kernel.specs.Faults.{fault_of}
-use Rattle.mcs_seats.specs.Seats.{Seat, told_by}
+use Rattle.mcs_seats.specs.Seats.{Seat, count_entered_by}
 use Rattle.mcs_seats.specs.declared.call.Outcome.{Outcome}
-use Rattle.mcs_seats.specs.declared.call.Outcome.TheVariants.{Told, Away}
+use Rattle.mcs_seats.specs.declared.call.Outcome.TheVariants.{Entered, Away}
 use Rattle.mcs_seats.specs.declared.call.Answered.{Answered}
 use Rattle.mcs_seats.specs.declared.call.Call.{Call}
 use Rattle.mcs_seats.specs.declared.settle.FinishFault.{FinishFault}
@@ -25,8 +25,8 @@ pub record Note : Type 0 where
   pub answer : Answer
 
 -- what a call with this answer reported to it
-abbrev pub told_note : Call → Answered → Note
-told_note x a = record { line = a.line; thread = x.thread; entry = x.entry; answer = a.answer }
+abbrev pub entered_note : Call → Answered → Note
+entered_note x a = record { line = a.line; thread = x.thread; entry = x.entry; answer = a.answer }
 
 -- what is reported to it about a line of this number, step and answer
 abbrev pub noted_line : ℕ → Step → Answer → Note
@@ -76,7 +76,7 @@ later_notes (n ∷ ns) = ns
 -- book had at least this many lines: it reported the next line, or was skipped rightly before that
 -- line came
 abbrev pub IsRightAt : Book → CoreId → List Note → ℕ → Call → Outcome → Type 0
-IsRightAt b c notes lines x (Told a) = next_note notes ≡ Some (told_note x a)
+IsRightAt b c notes lines x (Entered a) = next_note notes ≡ Some (entered_note x a)
 IsRightAt b c notes lines x (Away n f) = (lines ≤ n) × (n ≤ next_line b notes) × (fault_of (cut b (n - 1)) c x.thread ≡ Some f)
 
 -- the same, of what became of it
@@ -85,12 +85,12 @@ IsRight b c notes lines x = IsRightAt b c notes lines x x.outcome
 
 -- the notes that it is told after the call
 abbrev pub notes_after : Outcome → List Note → List Note
-notes_after (Told a) notes = later_notes notes
+notes_after (Entered a) notes = later_notes notes
 notes_after (Away n f) notes = notes
 
 -- how many lines the book had then
 abbrev pub lines_after : Outcome → ℕ
-lines_after (Told a) = a.line + 1
+lines_after (Entered a) = a.line + 1
 lines_after (Away n f) = n
 
 -- calls, the oldest first, are right one after another, and no more is reported to the core
@@ -108,18 +108,18 @@ IsTornAt b c notes lines (x ∷ xs) n =
     ⊎ (IsRight b c notes lines x × IsTornAt b c (notes_after x.outcome notes) (lines_after x.outcome) xs (n - 1) × (1 < n))
 
 -- what an outcome reported
-abbrev pub notes_told : Call → Outcome → List Note
-notes_told x (Told a) = told_note x a ∷ []
-notes_told x (Away n f) = []
+abbrev pub outcome_notes : Call → Outcome → List Note
+outcome_notes x (Entered a) = entered_note x a ∷ []
+outcome_notes x (Away n f) = []
 
 -- what calls reported, the oldest first
-abbrev pub told_of : List Call → List Note
-told_of [] = []
-told_of (x ∷ xs) = notes_told x x.outcome ++ told_of xs
+abbrev pub entered_notes : List Call → List Note
+entered_notes [] = []
+entered_notes (x ∷ xs) = outcome_notes x x.outcome ++ entered_notes xs
 
 -- the entry and the answer of a note, as those of a line of this core
-abbrev pub entry_told : CoreId → Note → Step × Answer
-entry_told c n = (record { core = c; thread = n.thread; entry = n.entry }, n.answer)
+abbrev pub entered_entry : CoreId → Note → Step × Answer
+entered_entry c n = (record { core = c; thread = n.thread; entry = n.entry }, n.answer)
 
 -- the entry and the answer of a line
 abbrev pub entry_of : Line → Step × Answer
@@ -144,7 +144,7 @@ HasSeats b seats = (c : ℕ) → c < b.boot.cores → list_any (λ s. s.core.0 =
 
 -- where no core lacks a seat, the seats were told as many lines as the book has after the boot
 abbrev pub AreCounted : Book → List Seat → Type 0
-AreCounted b seats = HasSeats b seats → told_by seats ≡ length b.lines
+AreCounted b seats = HasSeats b seats → count_entered_by seats ≡ length b.lines
 
 -- a seat of this core whose n-th call does not agree
 pub record HasTorn (b : Book) (seats : List Seat) (c : CoreId) (n : ℕ) : Type 0 where

@@ -5,7 +5,7 @@ use Rattle.mcs_types.specs.Limits.{line_limit}
 use Rattle.mcs_book.specs.History.{Book, Line, IsLegal, line_of_number}
 use Rattle.mcs_seats.specs.Seats.{Seat}
 use Rattle.mcs_seats.specs.declared.call.Outcome.{Outcome}
-use Rattle.mcs_seats.specs.declared.call.Outcome.TheVariants.{Told, Away}
+use Rattle.mcs_seats.specs.declared.call.Outcome.TheVariants.{Entered, Away}
 use Rattle.mcs_seats.specs.declared.call.Call.{Call}
 use Rattle.mcs_seats.specs.declared.retrace.LineCopy.{LineCopy}
 use Rattle.mcs_seats.specs.declared.retrace.Progress.{Progress}
@@ -102,7 +102,7 @@ IsProgress w (Torn n) = IsTornOf w n
 
 -- a call that this became was not skipped before this line
 abbrev pub CameLater : ℕ → Outcome → Type 0
-CameLater at (Told a) = Unit {0}
+CameLater at (Entered a) = Unit {0}
 CameLater at (Away n f) = at < n
 
 -- the next of these calls was not

@@ -1,6 +1,6 @@
 //! How many lines the seats have in all, by their ledger (own).
 ghost use Rattle.std.specs.Prelude.{◌≡◌, ◌≤◌, ◌+◌, length};
-ghost use Rattle.mcs_seats.specs.Seats.{told_by};
+ghost use Rattle.mcs_seats.specs.Seats.{count_entered_by};
 
 use crate::seat::CoreSeat;
 use std::sync::ledger::{Book, Ledger, Share};
@@ -11,7 +11,7 @@ pub fn audit_seats<G: Ledger>(book: &mut Book<G>, kept: Share<G>, seats: Vec<Cor
     requires { kept.amount ≡ 0 }
     ensures parts { kept.parts + length seats.items ≤ G.parts }
     ensures whole { kept.parts + length seats.items ≡ G.parts
-        → told_by seats.items ≡ book.old.total }
+        → count_entered_by seats.items ≡ book.old.total }
 {
     let mut kept = kept;
     // An empty share first, so that the number of parts is right even without a seat.

@@ -13,7 +13,7 @@ pub struct Answered {
 #[derive(Drop)]
 pub enum Outcome {
     /// It was accepted.
-    Told(Answered),
+    Entered(Answered),
     /// It was skipped when the book had `lines` lines, the boot's among them.
     Away { lines: usize, fault: EnterFault },
 }

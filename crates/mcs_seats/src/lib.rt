@@ -11,7 +11,7 @@ mod settle;
 
 pub use audit::audit_seats;
 pub use call::{Answered, Call, Outcome, Turned};
-pub use laws::{told_lines, told_of_core};
+pub use laws::{entered_lines, entered_of_core};
 pub use prepared::Prepared;
 pub use seat::CoreSeat;
 pub use settle::{FinishFault, Settled, settle_seats};

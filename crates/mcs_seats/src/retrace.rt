@@ -3,7 +3,7 @@
 ghost use Rattle.std.specs.Prelude.{◌≡◌, ◌==◌, ◌≤◌, ◌+◌, ◌-◌, true, All, IfOk, IfNone, IfSome, OnOk, IsTrue, ◌↔◌, Some, drop, length, map};
 ghost use Rattle.mcs_book.specs.History.{line_of_number};
 ghost use Rattle.mcs_kernel.specs.Faults.{fault_of};
-ghost use Rattle.mcs_seats.specs.Settling.{noted_line, told_note, cut, AllAgree, HasTorn};
+ghost use Rattle.mcs_seats.specs.Settling.{noted_line, entered_note, cut, AllAgree, HasTorn};
 ghost use Rattle.mcs_seats.specs.Trails.{IsKernelBook, IsLineAt, IsBeside, place_of, trail_of, past_line, AreRightTo, IsLater, IsReady, IsProgress, AllRight, IsTornOf, HasTornTrail};
 
 use crate::call::{Answered, Call, Outcome};
@@ -138,14 +138,14 @@ fn is_same_fault(found: Option<EnterFault>, fault: EnterFault) -> bool
 }
 
 /// Returns whether a call was reported this line with this number.
-fn is_noted(number: usize, line: &LineCopy, call: &Call, told: &Answered) -> bool
+fn is_noted(number: usize, line: &LineCopy, call: &Call, answered: &Answered) -> bool
     ensures { IsTrue result
-        ↔ (noted_line number line.now.step line.now.answer ≡ told_note call.now told.now) }
+        ↔ (noted_line number line.now.step line.now.answer ≡ entered_note call.now answered.now) }
 {
-    told.line == number
+    answered.line == number
         && line.step.thread == call.thread
         && line.step.entry.is_same(&call.entry)
-        && line.answer.is_same(&told.answer)
+        && line.answer.is_same(&answered.answer)
 }
 
 impl<'a> Follower<'a> {
@@ -175,7 +175,7 @@ impl<'a> Follower<'a> {
         for i in count..self.calls.len() {
             let call = &self.calls[i];
             match &call.outcome {
-                Outcome::Told(_) => return Progress::Right(i),
+                Outcome::Entered(_) => return Progress::Right(i),
                 Outcome::Away { lines, fault } => {
                     if self.at < *lines {
                         return Progress::Right(i);
@@ -206,8 +206,8 @@ impl<'a> Follower<'a> {
         };
         match &call.outcome {
             Outcome::Away { .. } => Progress::Torn(count + 1),
-            Outcome::Told(told) => {
-                if is_noted(self.at, line, call, told) {
+            Outcome::Entered(answered) => {
+                if is_noted(self.at, line, call, answered) {
                     Progress::Right(count + 1)
                 } else {
                     Progress::Torn(count + 1)

@@ -21,14 +21,14 @@ pub struct CoreSeat<G: Ledger> {
 
 impl<G: Ledger> Model for CoreSeat<G> {
     ghost use Rattle.std.specs.Prelude.{◌≡◌, reverse};
-    ghost use Rattle.mcs_seats.specs.Seats.{Seat, told};
+    ghost use Rattle.mcs_seats.specs.Seats.{Seat, count_entered};
 
     ghost Value = { Seat };
 
     ghost view = { λ s. record { core = s.core; calls = reverse s.calls.items } };
 
     ghost invariant = { λ s. (s.share.parts ≡ 1)
-        × (s.share.amount ≡ told (reverse s.calls.items)) };
+        × (s.share.amount ≡ count_entered (reverse s.calls.items)) };
 }
 
 /// Keeps a call; there must be room.
@@ -48,7 +48,7 @@ fn keep(calls: &mut Vec<Call>, thread: ObjId, entry: Entry, outcome: Outcome)
 }
 
 impl<G: Ledger> CoreSeat<G> {
-    ghost use Rattle.mcs_seats.specs.Seats.{Enters, told};
+    ghost use Rattle.mcs_seats.specs.Seats.{Enters, count_entered};
 
     /// Returns a seat with a share of the ledger.
     pub fn new(alloc: Global, core: CoreId, share: Share<G>) -> CoreSeat<G>
@@ -80,7 +80,7 @@ impl<G: Ledger> CoreSeat<G> {
     /// Returns its share of the ledger, and drops the seat.
     pub(crate) fn into_share(self) -> Share<G>
         ensures parts { result.parts ≡ 1 }
-        ensures amount { result.amount ≡ told self.calls }
+        ensures amount { result.amount ≡ count_entered self.calls }
     {
         let CoreSeat {
             core: _,
@@ -123,11 +123,11 @@ impl<G: Ledger> CoreSeat<G> {
         match kernel.enter(alloc, self.core, thread, entry) {
             Ok(answer) => {
                 book.add(&mut self.share, 1);
-                let told = Outcome::Told(Answered {
+                let outcome = Outcome::Entered(Answered {
                     line: lines,
                     answer: copy_answer(alloc, &answer, room),
                 });
-                keep(&mut self.calls, thread, kept, told);
+                keep(&mut self.calls, thread, kept, outcome);
                 Ok(Answered {
                     line: lines,
                     answer,

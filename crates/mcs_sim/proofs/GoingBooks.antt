@@ -4,7 +4,7 @@ use Rattle.std.proofs.Math.Seq.{drop-append_seam}
 use Rattle.std.proofs.lemmas.List.{reverse-append, length-reverse, length-append, take_more, take_rest}
 use Rattle.std.proofs.lemmas.Bool.{ne_eqb}
 use Rattle.std.proofs.lemmas.Option.{slice_get_within, get_or_from_slice_get}
-use Rattle.mcs_sim.specs.declared.writing.Told.{Told}
+use Rattle.mcs_sim.specs.declared.writing.Written.{Written}
 use Rattle.mcs_types.specs.declared.entry.Step.{Step}
 use Rattle.mcs_book.specs.Boots.{Boot}
 use Rattle.mcs_book.specs.Statuses.{may_enter}
@@ -20,7 +20,7 @@ use Rattle.mcs_text.specs.declared.fault.LineFault.TheVariants as why
 use Rattle.std.specs.Prelude.{nat_lt, ◌==◌, slice_get}
 use Rattle.mcs_sim.proofs.GoingScripts.{book_of-end}
 use Rattle.mcs_sim.specs.Trace.{boot_lines_trace, sent_after, sent_in, line_trace, lines_trace, trace, trace_of}
-use Rattle.mcs_sim.specs.Trace.{IsLonger, told_of, all_told, IsToldBy, IsToldOf, IsToldUpTo, untold, untold_of, untold_lines}
+use Rattle.mcs_sim.specs.Trace.{IsLonger, written_of, all_written, IsWrittenBy, IsWrittenOf, IsWrittenUpTo, unwritten, unwritten_of, unwritten_lines}
 use Rattle.mcs_phases.specs.Going.{BootOrBook, Course, Going, stepped, stands, read_at, step_line, after_step, book_after, after_line_on, after_line, past_line, with_line, after_end_on, after_end, past_boot, boot_ended_after, boot_ended, with_part, with_byte, fed, with_last, at_end, ended, at_line, refused_for}
 
 pub longer-refl : (k : Option Book) → IsLonger k k
@@ -204,40 +204,40 @@ lines-next d xs i x le is =
         go d ys j (ap (slice_get (y ∷ ys)) (sym same) ∙ found)
 
 -- all of them
-pub lines-all : (b : Book) (t : Told) (n : ℕ) → n ≡ length b.lines + 1 → take (n - 1 - (t.lines - 1)) (untold_lines t b) ≡ untold_lines t b
+pub lines-all : (b : Book) (t : Written) (n : ℕ) → n ≡ length b.lines + 1 → take (n - 1 - (t.lines - 1)) (unwritten_lines t b) ≡ unwritten_lines t b
 lines-all b t n is =
     let count : n - 1 - (t.lines - 1) ≡ length (reverse b.lines) - (t.lines - 1) = omega (arith, is, length-reverse b.lines) in
-    ap (λ (m : ℕ). take m (untold_lines t b)) count ∙ take_rest (reverse b.lines) (t.lines - 1)
+    ap (λ (m : ℕ). take m (unwritten_lines t b)) count ∙ take_rest (reverse b.lines) (t.lines - 1)
 
 -- what was written and what was not are the trace together
-pub told-more : (t : Told) (j k : Option Book) → IsToldBy t j → IsLonger j k → trace_of k ≡ trace_of j ++ untold_of t k
-unfolding untold trace
-told-more t None None told longer = refl
-told-more t None (Some b) told longer = sym (ap (λ (t : Told). untold t b) told.is)
-told-more t (Some a) None told longer = absurd longer
-told-more t (Some a) (Some b) told longer =
+pub written-more : (t : Written) (j k : Option Book) → IsWrittenBy t j → IsLonger j k → trace_of k ≡ trace_of j ++ unwritten_of t k
+unfolding unwritten trace
+written-more t None None written longer = refl
+written-more t None (Some b) written longer = sym (ap (λ (t : Written). unwritten t b) written.is)
+written-more t (Some a) None written longer = absurd longer
+written-more t (Some a) (Some b) written longer =
     let some : eqb (length a.lines + 1) 0 ≡ false = ne_eqb _ _ (λ e. omega arith) in
     let count : length a.lines + 1 - 1 ≡ length a.lines = omega arith in
     let lines : drop (length a.lines + 1 - 1) (reverse b.lines) ≡ reverse longer.1.0 = ap (λ (n : ℕ). drop n (reverse b.lines)) count ∙ drop-more a b longer.1.0 longer.1.1 in
-    let rest : untold (all_told a) b ≡ lines_trace (sent_in 0 (reverse a.lines)) (reverse longer.1.0) = rw some (ap (lines_trace (sent_in 0 (reverse a.lines))) lines) in
-    trace-more a b longer.1.0 longer.0 longer.1.1 ∙ ap (λ (t : List ℕ). trace a ++ t) (sym (ap (λ (t : Told). untold t b) told.is ∙ rest))
+    let rest : unwritten (all_written a) b ≡ lines_trace (sent_in 0 (reverse a.lines)) (reverse longer.1.0) = rw some (ap (lines_trace (sent_in 0 (reverse a.lines))) lines) in
+    trace-more a b longer.1.0 longer.0 longer.1.1 ∙ ap (λ (t : List ℕ). trace a ++ t) (sym (ap (λ (t : Written). unwritten t b) written.is ∙ rest))
 
-pub told-of : (t : Told) (b : Book) → IsToldUpTo t (Some b) → IsToldOf t b
-told-of t b (None, told, longer) = record {
-  fits = told.fits;
-  few = omega (arith, ap (λ (t : Told). t.lines) told.is);
-  all = ap (λ (t : Told). sent_in t.sent (untold_lines t b)) told.is;
+pub written-of : (t : Written) (b : Book) → IsWrittenUpTo t (Some b) → IsWrittenOf t b
+written-of t b (None, written, longer) = record {
+  fits = written.fits;
+  few = omega (arith, ap (λ (t : Written). t.lines) written.is);
+  all = ap (λ (t : Written). sent_in t.sent (unwritten_lines t b)) written.is;
 }
-told-of t b (Some a, told, longer) =
+written-of t b (Some a, written, longer) =
     let count : length a.lines + 1 - 1 ≡ length a.lines = omega arith in
     let lines : drop (length a.lines + 1 - 1) (reverse b.lines) ≡ reverse longer.1.0 = ap (λ (n : ℕ). drop n (reverse b.lines)) count ∙ drop-more a b longer.1.0 longer.1.1 in
     record {
-      fits = told.fits;
-      few = omega (arith, ap (λ (t : Told). t.lines) told.is, ap (λ (ls : List Line). length ls) longer.1.1, length-append longer.1.0 a.lines);
-      all = ap (λ (t : Told). sent_in t.sent (untold_lines t b)) told.is ∙ ap (sent_in (sent_in 0 (reverse a.lines))) lines ∙ sym (sent-more a b longer.1.0 longer.1.1);
+      fits = written.fits;
+      few = omega (arith, ap (λ (t : Written). t.lines) written.is, ap (λ (ls : List Line). length ls) longer.1.1, length-append longer.1.0 a.lines);
+      all = ap (λ (t : Written). sent_in t.sent (unwritten_lines t b)) written.is ∙ ap (sent_in (sent_in 0 (reverse a.lines))) lines ∙ sym (sent-more a b longer.1.0 longer.1.1);
     }
 
 -- if nothing was written, all of the trace is left
-pub untold-all : (t : Told) (b : Book) → t ≡ told_of None → untold t b ≡ trace b
-unfolding untold trace
-untold-all t b is = ap (λ (t : Told). untold t b) is
+pub unwritten-all : (t : Written) (b : Book) → t ≡ written_of None → unwritten t b ≡ trace b
+unfolding unwritten trace
+unwritten-all t b is = ap (λ (t : Written). unwritten t b) is

@@ -13,7 +13,7 @@ use Rattle.mcs_phases.specs.declared.fault.SimFault.{SimFault}
 use Rattle.mcs_phases.specs.declared.fault.SimFault.TheVariants as fault
 use Rattle.mcs_phases.specs.Script.{Script, steps}
 use Rattle.mcs_sim.specs.Trace.{trace, trace_of}
-use Rattle.mcs_sim.specs.Runs.{script_trace, trace_before, told, written, Begins, IsFull, IsFullAt, IsRoomy, IsFairBefore, IsNamed, StopsSoon, ReadsText, Finishes, Ends}
+use Rattle.mcs_sim.specs.Runs.{script_trace, trace_before, written_by, written, Begins, IsFull, IsFullAt, IsRoomy, IsFairBefore, IsNamed, StopsSoon, ReadsText, Finishes, Ends}
 use Rattle.mcs_sim.specs.Trace.{IsLonger}
 use Rattle.mcs_phases.specs.Going.{Course, Going, ended_by, at_line, no_line, fed, at_end, ended, IsFairBook, TakesEnd, TakesPiece}
 use Rattle.mcs_sim.specs.Outcomes.{boot_or_book_of, IsTaken, IsTakenTo, IsTakenToFull, ComesOfScript}
@@ -22,27 +22,27 @@ use Rattle.mcs_sim.proofs.GoingScripts.{fed-as-read}
 use Rattle.mcs_sim.proofs.GoingBooks.{steps-longer, longer-trans, fed-longer, ended-longer, IsBeginning, longer-begins}
 
 -- all was taken
-taken-told : (t : Script Step) (c : Course) → IsTaken t c → told t None ≡ trace_of c.stands.book
+taken-written_by : (t : Script Step) (c : Course) → IsTaken t c → written_by t None ≡ trace_of c.stands.book
 unfolding script_trace
-taken-told t c is = ap (λ (b : Option Boot). script_trace b t.items) is.said ∙ sym (ap trace_of is.book)
+taken-written_by t c is = ap (λ (b : Option Boot). script_trace b t.items) is.said ∙ sym (ap trace_of is.book)
 
 -- all before a faulty line
-before-told : (boot : Option Boot) (ss : List Step) → trace_before boot ss ≡ trace_of (boot_or_book_of boot ss).book
+before-written_by : (boot : Option Boot) (ss : List Step) → trace_before boot ss ≡ trace_of (boot_or_book_of boot ss).book
 unfolding trace_before script_trace
-before-told boot [] = refl
-before-told None (s ∷ ss) = refl
-before-told (Some b) (s ∷ ss) = refl
+before-written_by boot [] = refl
+before-written_by None (s ∷ ss) = refl
+before-written_by (Some b) (s ∷ ss) = refl
 
-faulty-told : (t : Script Step) (line : ℕ) (why : LineFault) (c : Course) → IsTakenTo line why t c → told t (Some (line, why)) ≡ trace_of c.stands.book
-faulty-told t line why c is = before-told t.boot t.items ∙ sym (ap trace_of is.book)
+faulty-written_by : (t : Script Step) (line : ℕ) (why : LineFault) (c : Course) → IsTakenTo line why t c → written_by t (Some (line, why)) ≡ trace_of c.stands.book
+faulty-written_by t line why c is = before-written_by t.boot t.items ∙ sym (ap trace_of is.book)
 
 -- what was taken before a step for which the book is full
-full-told : (f : Option (ℕ × LineFault)) (boot : Option Boot) (before after : List Step) → IsBeginning (trace_of (boot_or_book_of boot before).book) (told (record { boot = boot; items = before ++ after }) f)
+full-written_by : (f : Option (ℕ × LineFault)) (boot : Option Boot) (before after : List Step) → IsBeginning (trace_of (boot_or_book_of boot before).book) (written_by (record { boot = boot; items = before ++ after }) f)
 unfolding trace_before script_trace
-full-told f boot [] after = (told (record { boot = boot; items = after }) f, refl)
-full-told f None (x ∷ xs) after = (told (record { boot = None; items = (x ∷ xs) ++ after }) f, refl)
-full-told None (Some b) (x ∷ xs) after = longer-begins (Some (book_of b (x ∷ xs))) (Some (book_of b ((x ∷ xs) ++ after))) (steps-longer after b (x ∷ xs))
-full-told (Some f) (Some b) (x ∷ xs) after = longer-begins (Some (book_of b (x ∷ xs))) (Some (book_of b ((x ∷ xs) ++ after))) (steps-longer after b (x ∷ xs))
+full-written_by f boot [] after = (written_by (record { boot = boot; items = after }) f, refl)
+full-written_by f None (x ∷ xs) after = (written_by (record { boot = None; items = (x ∷ xs) ++ after }) f, refl)
+full-written_by None (Some b) (x ∷ xs) after = longer-begins (Some (book_of b (x ∷ xs))) (Some (book_of b ((x ∷ xs) ++ after))) (steps-longer after b (x ∷ xs))
+full-written_by (Some f) (Some b) (x ∷ xs) after = longer-begins (Some (book_of b (x ∷ xs))) (Some (book_of b ((x ∷ xs) ++ after))) (steps-longer after b (x ∷ xs))
 
 same-begins : (x y : List ℕ) → y ≡ x → IsBeginning x y
 same-begins x y same = ([], same ∙ sym (append-nil x))
@@ -50,15 +50,15 @@ same-begins x y same = ([], same ∙ sym (append-nil x))
 begins-trans : (x y z : List ℕ) → IsBeginning x y → IsBeginning y z → IsBeginning x z
 begins-trans x y z one other = (one.0 ++ other.0, other.1 ∙ ap (λ (t : List ℕ). t ++ other.0) one.1 ∙ append_assoc x one.0 other.0)
 
-full-begins : (t : Script Step) (f : Option (ℕ × LineFault)) (c : Course) → IsTakenToFull t c → IsBeginning (trace_of c.stands.book) (told t f)
+full-begins : (t : Script Step) (f : Option (ℕ × LineFault)) (c : Course) → IsTakenToFull t c → IsBeginning (trace_of c.stands.book) (written_by t f)
 full-begins t f c is =
-    subst (λ (k : Option Book). IsBeginning (trace_of k) (told t f)) (sym is.book)
-    (subst (λ (ss : List Step). IsBeginning (trace_of (boot_or_book_of t.boot is.before).book) (told (record { boot = t.boot; items = ss }) f)) (sym is.split) (full-told f t.boot is.before (is.step ∷ is.after)))
+    subst (λ (k : Option Book). IsBeginning (trace_of k) (written_by t f)) (sym is.book)
+    (subst (λ (ss : List Step). IsBeginning (trace_of (boot_or_book_of t.boot is.before).book) (written_by (record { boot = t.boot; items = ss }) f)) (sym is.split) (full-written_by f t.boot is.before (is.step ∷ is.after)))
 
-outcome-begins : (r : Script Step × Option (ℕ × LineFault)) (c : Course) → ComesOfScript r c → IsBeginning (trace_of c.stands.book) (told r.0 r.1)
-outcome-begins (t, None) c (inl is) = same-begins _ _ (taken-told t c is)
+outcome-begins : (r : Script Step × Option (ℕ × LineFault)) (c : Course) → ComesOfScript r c → IsBeginning (trace_of c.stands.book) (written_by r.0 r.1)
+outcome-begins (t, None) c (inl is) = same-begins _ _ (taken-written_by t c is)
 outcome-begins (t, None) c (inr is) = full-begins t None c is
-outcome-begins (t, Some (line, why)) c (inl is) = same-begins _ _ (faulty-told t line why c is)
+outcome-begins (t, Some (line, why)) c (inl is) = same-begins _ _ (faulty-written_by t line why c is)
 outcome-begins (t, Some (line, why)) c (inr is) = full-begins t (Some (line, why)) c is
 
 -- at any time a beginning of what is written of the text
@@ -124,7 +124,7 @@ ends-faulty text line why ends =
     let faulty = faulty-of (steps text) (ended (fed (at_line no_line) text)) line why (fed-as-read text) ends in
     record {
       faulty = faulty.0;
-      wrote = sym (ap (told (steps text).0) faulty.0 ∙ faulty-told (steps text).0 line why _ faulty.1);
+      wrote = sym (ap (written_by (steps text).0) faulty.0 ∙ faulty-written_by (steps text).0 line why _ faulty.1);
       roomy = faulty.1.roomy;
       fair = λ fair. fair-before (steps text).0.boot (steps text).0.items (subst (λ k. IsFairBook k) faulty.1.book fair);
     }

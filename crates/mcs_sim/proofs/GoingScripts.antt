@@ -32,10 +32,10 @@ with_said b ss (Ok None) = Ok (record { boot = Some b; items = ss })
 with_said b ss (Ok (Some y)) = Ok (record { boot = Some b; items = ss ++ y ∷ [] })
 with_said b ss (Err e) = Err e
 
-read_line-behind : (b : Boot) (x : Step) (xs : List Step) (n : ℕ) (l : List ℕ)
+read_line-after : (b : Boot) (x : Step) (xs : List Step) (n : ℕ) (l : List ℕ)
     → read_line of_steps (record { boot = Some b; items = x ∷ xs }) n l ≡ with_said b (x ∷ xs) (step_line b.cores (threads_of b) n l)
 unfolding read_line spelled by_boot later_line next_items step_line
-read_line-behind b x xs n l = go (says_something n l) (words_of l)
+read_line-after b x xs n l = go (says_something n l) (words_of l)
   where
     item : (r : Result Step LineFault) → (r >>= (λ y. Ok ((x ∷ xs) ++ y ∷ [])) >>= (λ more. Ok (record { boot = Some b; items = more }))) ≡ with_said b (x ∷ xs) (behind_boot None r)
     item (Ok y) = refl
@@ -188,11 +188,11 @@ after-opening n boot (Ok t) is = elim is [ inl none ↦ still none | inr first �
         (after-step n f.by [] f.first None refl refl))
 
 -- a line after the boot
-after-behind : (n : ℕ) (b : Boot) (x : Step) (xs : List Step) → IsRoomy (Some b) (x ∷ xs) → (r : Result (Option Step) LineFault)
+after-following : (n : ℕ) (b : Boot) (x : Step) (xs : List Step) → IsRoomy (Some b) (x ∷ xs) → (r : Result (Option Step) LineFault)
     → AfterRead n (record { boot = Some b; items = x ∷ xs }) (stands None (after_step (book_of b (x ∷ xs)) (read_at n r))) (with_said b (x ∷ xs) r)
-after-behind n b x xs roomy (Err e) = refl
-after-behind n b x xs roomy (Ok None) = inl (record { known = tt; roomy = roomy; standing = refl })
-after-behind n b x xs roomy (Ok (Some y)) = after-step n b (x ∷ xs) y None refl roomy
+after-following n b x xs roomy (Err e) = refl
+after-following n b x xs roomy (Ok None) = inl (record { known = tt; roomy = roomy; standing = refl })
+after-following n b x xs roomy (Ok (Some y)) = after-step n b (x ∷ xs) y None refl roomy
 
 pub after-read : (n : ℕ) (s : Script Step) (l : List ℕ) → IsKnown s.boot s.items → IsRoomy s.boot s.items → AfterRead n s (after_line (boot_or_book_of s.boot s.items) n l) (read_line of_steps s n l)
 unfolding after_line book_after
@@ -204,9 +204,9 @@ after-read n s l known roomy = go s.boot s.items known roomy
     go (Some b) (x ∷ xs) known roomy =
         let same : (book_of b (x ∷ xs)).boot ≡ b = book_of-boot b (x ∷ xs) in
         subst (λ (q : Result (Script Step) LineFault). AfterRead n (record { boot = Some b; items = x ∷ xs }) (stands None (after_step (book_of b (x ∷ xs)) (read_at n (step_line (book_of b (x ∷ xs)).boot.cores (threads_of (book_of b (x ∷ xs)).boot) n l)))) q)
-        (sym (read_line-behind b x xs n l))
+        (sym (read_line-after b x xs n l))
         (subst (λ (a : Boot). AfterRead n (record { boot = Some b; items = x ∷ xs }) (stands None (after_step (book_of b (x ∷ xs)) (read_at n (step_line a.cores (threads_of a) n l)))) (with_said b (x ∷ xs) (step_line b.cores (threads_of b) n l)))
-        (sym same) (after-behind n b x xs roomy (step_line b.cores (threads_of b) n l)))
+        (sym same) (after-following n b x xs roomy (step_line b.cores (threads_of b) n l)))
 
 -- ---- lines
 
@@ -221,7 +221,7 @@ grown-end b ss y t g = (g.0, (y ∷ g.1.0, g.1.1 ∙ append_assoc ss (y ∷ []) 
 grown : (ls : List (List ℕ)) (b : Boot) (x : Step) (xs : List Step) (n : ℕ) → Grown b (x ∷ xs) (script_from of_steps (record { boot = Some b; items = x ∷ xs }) n ls).0
 unfolding Grown script_from
 grown [] b x xs n = (refl, ([], sym (append-nil (x ∷ xs))))
-grown (l ∷ ls) b x xs n = subst (λ (q : Result (Script Step) LineFault). Grown b (x ∷ xs) (after q).0) (sym (read_line-behind b x xs n l)) (go (step_line b.cores (threads_of b) n l) (λ ys. grown ls b x ys (n + 1)))
+grown (l ∷ ls) b x xs n = subst (λ (q : Result (Script Step) LineFault). Grown b (x ∷ xs) (after q).0) (sym (read_line-after b x xs n l)) (go (step_line b.cores (threads_of b) n l) (λ ys. grown ls b x ys (n + 1)))
   where
     after : Result (Script Step) LineFault → Script Step × Option (ℕ × LineFault)
     after q = elim q [ Ok t ↦ script_from of_steps t (n + 1) ls | Err e ↦ (record { boot = Some b; items = x ∷ xs }, Some (n, e)) ]

@@ -7,13 +7,13 @@ use Rattle.mcs_trace.specs.Output.{Moves, Puts, kept}
 use Rattle.mcs_trace.proofs.Outputs.{Puts-then, Puts-text}
 use Rattle.mcs_phases.specs.declared.fault.SimFault.{SimFault}
 use Rattle.mcs_phases.specs.declared.fault.SimFault.TheVariants as fault
-use Rattle.mcs_sim.specs.declared.writing.Told.{Told}
-use Rattle.mcs_sim.specs.Trace.{IsLonger, IsToldBy, trace_of, untold_of}
+use Rattle.mcs_sim.specs.declared.writing.Written.{Written}
+use Rattle.mcs_sim.specs.Trace.{IsLonger, IsWrittenBy, trace_of, unwritten_of}
 use Rattle.mcs_sim.specs.Runs.{Ends, TellsMore, WritesMore, HasFailed, answer_with}
 use Rattle.mcs_phases.specs.Going.{Going, at_line, no_line, fed, IsFairBook, TakesPiece}
 use Rattle.mcs_sim.proofs.GoingLaws.{fed-append}
 use Rattle.mcs_sim.proofs.GoingRuns.{ends-by, ends-write, fault-of-piece}
-use Rattle.mcs_sim.proofs.GoingBooks.{told-more}
+use Rattle.mcs_sim.proofs.GoingBooks.{written-more}
 use Rattle.mcs_sim.proofs.GoingTakes.{answer-err, answer-ok}
 use Rattle.mcs_sim.proofs.TraceLaws.{puts_nothing, puts_after}
 use Rattle.mcs_sim.proofs.GoingWeights.{weight, IsWithin, HasCome, fed-come}
@@ -33,11 +33,11 @@ appends-out f a s t text same none puts whole empty =
     subst (Appends (f a.writer) (f t.writer)) (sym (moves.split ∙ ap (λ (l : List ℕ). moves.sent ++ l) ((puts.whole whole).1 ∙ empty) ∙ append-nil moves.sent)) moves.grown
 
 -- what a piece adds to the trace was put
-pub tells-longer : {W : Type 0} (f : W → Option (List ℕ)) (told : Told) (g h i : Going) (s t : Sink W) → g ≡ h → IsToldBy told g.course.stands.book → IsLonger g.course.stands.book i.course.stands.book
-    → Puts f s t (untold_of told i.course.stands.book) → TellsMore f s t h.course.stands.book i.course.stands.book
-tells-longer f told g h i s t same is longer puts =
-    let more = told-more told g.course.stands.book i.course.stands.book is longer in
-    subst (λ (g : Going). TellsMore f s t g.course.stands.book i.course.stands.book) same (untold_of told i.course.stands.book, more, puts)
+pub tells-longer : {W : Type 0} (f : W → Option (List ℕ)) (written : Written) (g h i : Going) (s t : Sink W) → g ≡ h → IsWrittenBy written g.course.stands.book → IsLonger g.course.stands.book i.course.stands.book
+    → Puts f s t (unwritten_of written i.course.stands.book) → TellsMore f s t h.course.stands.book i.course.stands.book
+tells-longer f written g h i s t same is longer puts =
+    let more = written-more written g.course.stands.book i.course.stands.book is longer in
+    subst (λ (g : Going). TellsMore f s t g.course.stands.book i.course.stands.book) same (unwritten_of written i.course.stands.book, more, puts)
 
 -- what was put of a book and then of a longer one
 pub tells-then : {W : Type 0} (f : W → Option (List ℕ)) (s t v : Sink W) (j k l : Option Book) → TellsMore f s t j k → TellsMore f t v k l → TellsMore f s v j l

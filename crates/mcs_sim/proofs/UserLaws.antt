@@ -12,7 +12,7 @@ use Rattle.mcs_phases.specs.declared.fault.SimFault.{SimFault}
 use Rattle.mcs_phases.specs.declared.fault.SimFault.TheVariants as fault
 use Rattle.mcs_phases.specs.Script.{Script, of_users, says_something, read_line, ending, script_from, script_of, users}
 use Rattle.mcs_phases.specs.Going.{HasNoNewline}
-use Rattle.mcs_sim.specs.Users.{Users, no_users, IsKept, read_behind, AreLines, TakesUsers, IsFaultIn, IsFaultOfLine, read_to_end, IsFaultAtEnd, AreFaultless, GoesOn, UsersStopSoon}
+use Rattle.mcs_sim.specs.Users.{Users, no_users, IsKept, read_after, AreLines, TakesUsers, IsFaultIn, IsFaultOfLine, read_to_end, IsFaultAtEnd, AreFaultless, GoesOn, UsersStopSoon}
 use Rattle.mcs_sim.specs.Running.{Reads, EndsUsers}
 use Rattle.mcs_sim.proofs.ScriptLaws.{script_from-ok, script_from-err}
 use Rattle.mcs_sim.proofs.InputLaws.{lines-byte, within}
@@ -161,7 +161,7 @@ pub fault-line : (u : Users) (part line : List ℕ) (e : SimFault) → line ≡ 
     → IsFaultOfLine (u.lines + 1) (read_line (of_users u.asked) u.script (u.lines + 1) line) e → IsFaultIn (part ++ 10 ∷ []) u e
 fault-line u part line fault.Argument is plain bad = absurd bad
 fault-line u part line (fault.Script number e) is plain bad = λ more.
-    ap (λ (text : List ℕ). (read_behind u text).1) (cut-line u.line part line more is)
+    ap (λ (text : List ℕ). (read_after u text).1) (cut-line u.line part line more is)
     ∙ ap (λ (ls : List (List ℕ)). (script_from (of_users u.asked) u.script (u.lines + 1) ls).1) (lines-ended line more plain)
     ∙ ap (λ (r : Script UserEntry × Option (ℕ × LineFault)). r.1) (script_from-err (of_users u.asked) u.script (u.lines + 1) line (lines_of more) e bad.1)
     ∙ ap (λ (n : ℕ). Some (n, e)) (sym bad.0)
@@ -185,28 +185,28 @@ takes-append u v w xs ys one two = record {
   lines = are-both one.ended two.ended one.lines two.lines;
   count = λ more. ap (λ (l : List ℕ). u.lines + length (lines_of l)) (append_assoc one.ended two.ended more) ∙ one.count (two.ended ++ more) ∙ two.count more;
   short = omega (arith, one.short, two.short, length-append one.ended two.ended);
-  reads = λ more. ap (read_behind u) (append_assoc one.ended two.ended more) ∙ one.reads (two.ended ++ more) ∙ two.reads more;
+  reads = λ more. ap (read_after u) (append_assoc one.ended two.ended more) ∙ one.reads (two.ended ++ more) ∙ two.reads more;
 }
 
 -- the bytes after those that were taken
-behind : (u v : Users) (xs ys more : List ℕ) → (t : TakesUsers xs u v) → u.line ++ (xs ++ ys) ++ more ≡ t.ended ++ (v.line ++ ys ++ more)
-behind u v xs ys more t =
+after_taken : (u v : Users) (xs ys more : List ℕ) → (t : TakesUsers xs u v) → u.line ++ (xs ++ ys) ++ more ≡ t.ended ++ (v.line ++ ys ++ more)
+after_taken u v xs ys more t =
     ap (λ (l : List ℕ). l ++ more) (sym (append_assoc u.line xs ys) ∙ ap (λ (l : List ℕ). l ++ ys) t.split ∙ append_assoc t.ended v.line ys) ∙ append_assoc t.ended (v.line ++ ys) more
 
-pub fault-behind : (u v : Users) (xs ys : List ℕ) (e : SimFault) → TakesUsers xs u v → IsFaultIn ys v e → IsFaultIn (xs ++ ys) u e
-fault-behind u v xs ys fault.Argument takes bad = absurd bad
-fault-behind u v xs ys (fault.Script line e) takes bad = λ more.
-    ap (λ (text : List ℕ). (read_behind u text).1) (behind u v xs ys more takes) ∙ ap (λ (r : Script UserEntry × Option (ℕ × LineFault)). r.1) (takes.reads (v.line ++ ys ++ more)) ∙ bad more
-fault-behind u v xs ys fault.Read takes bad = absurd bad
-fault-behind u v xs ys fault.Write takes bad = absurd bad
-fault-behind u v xs ys fault.BookFull takes bad = absurd bad
-fault-behind u v xs ys fault.OutOfMemory takes bad = tt
-fault-behind u v xs ys fault.Failed takes bad = absurd bad
-fault-behind u v xs ys fault.NotStarted takes bad = absurd bad
+pub fault-after : (u v : Users) (xs ys : List ℕ) (e : SimFault) → TakesUsers xs u v → IsFaultIn ys v e → IsFaultIn (xs ++ ys) u e
+fault-after u v xs ys fault.Argument takes bad = absurd bad
+fault-after u v xs ys (fault.Script line e) takes bad = λ more.
+    ap (λ (text : List ℕ). (read_after u text).1) (after_taken u v xs ys more takes) ∙ ap (λ (r : Script UserEntry × Option (ℕ × LineFault)). r.1) (takes.reads (v.line ++ ys ++ more)) ∙ bad more
+fault-after u v xs ys fault.Read takes bad = absurd bad
+fault-after u v xs ys fault.Write takes bad = absurd bad
+fault-after u v xs ys fault.BookFull takes bad = absurd bad
+fault-after u v xs ys fault.OutOfMemory takes bad = tt
+fault-after u v xs ys fault.Failed takes bad = absurd bad
+fault-after u v xs ys fault.NotStarted takes bad = absurd bad
 
 pub fault-before : (u : Users) (xs ys : List ℕ) (e : SimFault) → IsFaultIn xs u e → IsFaultIn (xs ++ ys) u e
 fault-before u xs ys fault.Argument bad = absurd bad
-fault-before u xs ys (fault.Script line e) bad = λ more. ap (λ (text : List ℕ). (read_behind u text).1) (ap (λ (l : List ℕ). l ++ more) (sym (append_assoc u.line xs ys)) ∙ append_assoc (u.line ++ xs) ys more) ∙ bad (ys ++ more)
+fault-before u xs ys (fault.Script line e) bad = λ more. ap (λ (text : List ℕ). (read_after u text).1) (ap (λ (l : List ℕ). l ++ more) (sym (append_assoc u.line xs ys)) ∙ append_assoc (u.line ++ xs) ys more) ∙ bad (ys ++ more)
 fault-before u xs ys fault.Read bad = absurd bad
 fault-before u xs ys fault.Write bad = absurd bad
 fault-before u xs ys fault.BookFull bad = absurd bad
@@ -217,7 +217,7 @@ fault-before u xs ys fault.NotStarted bad = absurd bad
 -- a fault of a piece, in the line that ends after what was taken of it
 pub fault-within : (u v : Users) (piece before line rest : List ℕ) (e : SimFault) → piece ≡ before ++ (line ++ rest) → TakesUsers before u v → IsFaultIn line v e → IsFaultIn piece u e
 fault-within u v piece before line rest e split takes bad =
-    subst (λ (l : List ℕ). IsFaultIn l u e) (sym split) (fault-behind u v before (line ++ rest) e takes (fault-before v line rest e bad))
+    subst (λ (l : List ℕ). IsFaultIn l u e) (sym split) (fault-after u v before (line ++ rest) e takes (fault-before v line rest e bad))
 
 -- how far users have come
 abbrev pub weight : Users → ℕ
@@ -235,7 +235,7 @@ ok-append (Err e) u v w xs ys one two = tt
 
 pub err-append : (r : Result (Unit {0}) SimFault) (u v : Users) (xs ys : List ℕ) → TakesUsers xs u v → IfErr r (IsFaultIn ys v) → IfErr r (IsFaultIn (xs ++ ys) u)
 err-append (Ok x) u v xs ys one two = tt
-err-append (Err e) u v xs ys one two = fault-behind u v xs ys e one two
+err-append (Err e) u v xs ys one two = fault-after u v xs ys e one two
 
 -- ---- the end
 
@@ -246,12 +246,12 @@ lines-same (b ∷ bs) plain some = lines-ended (b ∷ bs) [] plain ∙ sym (line
 
 pub last-taken : (u v : Users) → IsKept u.lines u.line → eqb (length u.line) 0 ≡ false → TakesUsers (10 ∷ []) u v → read_to_end u ≡ read_to_end v
 last-taken u v kept some takes =
-    ap (script_from (of_users u.asked) u.script (u.lines + 1)) (sym (lines-same u.line kept.plain some)) ∙ ap (read_behind u) takes.split ∙ takes.reads v.line
+    ap (script_from (of_users u.asked) u.script (u.lines + 1)) (sym (lines-same u.line kept.plain some)) ∙ ap (read_after u) takes.split ∙ takes.reads v.line
 
 pub last-fault : (u : Users) (e : SimFault) → IsKept u.lines u.line → eqb (length u.line) 0 ≡ false → IsFaultIn (10 ∷ []) u e → IsFaultAtEnd u e
 last-fault u fault.Argument kept some bad = absurd bad
 last-fault u (fault.Script line e) kept some bad =
-    ap (λ (ls : List (List ℕ)). (script_from (of_users u.asked) u.script (u.lines + 1) ls).1) (sym (lines-same u.line kept.plain some)) ∙ ap (λ (text : List ℕ). (read_behind u text).1) (sym (append-nil (u.line ++ 10 ∷ []))) ∙ bad []
+    ap (λ (ls : List (List ℕ)). (script_from (of_users u.asked) u.script (u.lines + 1) ls).1) (sym (lines-same u.line kept.plain some)) ∙ ap (λ (text : List ℕ). (read_after u text).1) (sym (append-nil (u.line ++ 10 ∷ []))) ∙ bad []
 last-fault u fault.Read kept some bad = absurd bad
 last-fault u fault.Write kept some bad = absurd bad
 last-fault u fault.BookFull kept some bad = absurd bad
@@ -273,11 +273,11 @@ fault-same u v fault.NotStarted same bad = absurd bad
 -- what all lines said
 pub end-said : (u : Users) (boot : Boot) → u.line ≡ [] → u.script.boot ≡ Some boot → read_to_end u ≡ (u.script, None)
 unfolding script_from
-end-said u boot none is = ap (read_behind u) none ∙ ap (ending u.script (u.lines + 1)) is
+end-said u boot none is = ap (read_after u) none ∙ ap (ending u.script (u.lines + 1)) is
 
 pub end-unsaid : (u : Users) → u.line ≡ [] → u.script.boot ≡ None → read_to_end u ≡ (u.script, Some (u.lines + 1, why.NoCores))
 unfolding script_from
-end-unsaid u none is = ap (read_behind u) none ∙ ap (ending u.script (u.lines + 1)) is
+end-unsaid u none is = ap (read_after u) none ∙ ap (ending u.script (u.lines + 1)) is
 
 -- the same of what a call answered
 pub ok-last : (r : Result (Unit {0}) SimFault) (u v : Users) → IsKept u.lines u.line → eqb (length u.line) 0 ≡ false → OnOk r (TakesUsers (10 ∷ []) u v) → OnOk r (read_to_end u ≡ read_to_end v)
@@ -334,7 +334,7 @@ goes-on asked text u takes kept = record {
 stands-in : (asked : Option ℕ) (text piece : List ℕ) (u : Users) (line : ℕ) (e : LineFault) → TakesUsers text (no_users asked) u → IsFaultIn piece u (fault.Script line e)
     → (more : List ℕ) → (users asked ((text ++ piece) ++ more)).1 ≡ Some (line, e)
 unfolding script_of
-stands-in asked text piece u line e takes bad more = fault-behind (no_users asked) u text piece (fault.Script line e) takes bad more
+stands-in asked text piece u line e takes bad more = fault-after (no_users asked) u text piece (fault.Script line e) takes bad more
 
 -- a piece is read after what gave no fault
 pub stops-in : (asked : Option ℕ) (text piece : List ℕ) (u : Users) → TakesUsers text (no_users asked) u → IsKept u.lines u.line → length piece ≤ 4096 → UsersStopSoon asked (text ++ piece)

@@ -1,4 +1,3 @@
-pub mod Startup
 pub mod Trace
 pub mod Input
 pub mod Runs

@@ -27,13 +27,13 @@ trace_before b [] = []
 trace_before b (s ∷ ss) = script_trace b (s ∷ ss)
 
 -- what is written of a script
-abbrev pub told : Script Step → Option (ℕ × LineFault) → List ℕ
-told s None = script_trace s.boot s.items
-told s (Some f) = trace_before s.boot s.items
+abbrev pub written_by : Script Step → Option (ℕ × LineFault) → List ℕ
+written_by s None = script_trace s.boot s.items
+written_by s (Some f) = trace_before s.boot s.items
 
 -- what is written of a text
 unfoldable pub written : List ℕ → List ℕ
-written text = told (steps text).0 (steps text).1
+written text = written_by (steps text).0 (steps text).1
 
 -- a beginning of this text was written
 abbrev pub Begins : (old new : Option (List ℕ)) (text : List ℕ) → Type 0

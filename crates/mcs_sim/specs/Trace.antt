@@ -5,7 +5,7 @@ use Rattle.mcs_types.specs.declared.boot.BootLine.{BootLine}
 use Rattle.mcs_types.specs.declared.record.Rec.{Rec}
 use Rattle.mcs_types.specs.declared.record.Rec.TheVariants.{Sent}
 use Rattle.mcs_book.specs.History.{Line, Book}
-use Rattle.mcs_sim.specs.declared.writing.Told.{Told}
+use Rattle.mcs_sim.specs.declared.writing.Written.{Written}
 use Rattle.mcs_text.specs.Table.{cores_text, boot_text, step_text, answer_text, record_text}
 
 -- how many messages were sent with a record more
@@ -52,17 +52,17 @@ trace_of (Some b) = trace b
 
 -- all of a trace was written: this many lines, with that of the boot, and this many messages sent
 -- with them
-abbrev pub all_told : Book → Told
-all_told b = record { lines = length b.lines + 1; sent = sent_in 0 (reverse b.lines) }
+abbrev pub all_written : Book → Written
+all_written b = record { lines = length b.lines + 1; sent = sent_in 0 (reverse b.lines) }
 
 -- the same, of the trace of a book, if there is one
-abbrev pub told_of : Option Book → Told
-told_of None = record { lines = 0; sent = 0 }
-told_of (Some b) = all_told b
+abbrev pub written_of : Option Book → Written
+written_of None = record { lines = 0; sent = 0 }
+written_of (Some b) = all_written b
 
 -- the lines of a book after those that were written
-abbrev pub untold_lines : Told → Book → List Line
-untold_lines t b = drop (t.lines - 1) (reverse b.lines)
+abbrev pub unwritten_lines : Written → Book → List Line
+unwritten_lines t b = drop (t.lines - 1) (reverse b.lines)
 
 -- the second book is the first, or goes on where that ends
 abbrev pub IsLonger : Option Book → Option Book → Type 0
@@ -71,40 +71,40 @@ IsLonger (Some b) None = ⊥
 IsLonger (Some b) (Some c) = (c.boot ≡ b.boot) × ((more : List Line) × (c.lines ≡ more ++ b.lines))
 
 -- this was written: all of a book, if there is one
-pub record IsToldBy (t : Told) (k : Option Book) : Type 0 where
-  pub is : t ≡ told_of k
+pub record IsWrittenBy (t : Written) (k : Option Book) : Type 0 where
+  pub is : t ≡ written_of k
   pub fits : t.sent ≤ (t.lines - 1) * 2 ^ 64
 
 -- this much was written of a beginning of a book, or nothing; no line has more messages than 64
 -- bits can count
-pub record IsToldOf (t : Told) (b : Book) : Type 0 where
+pub record IsWrittenOf (t : Written) (b : Book) : Type 0 where
   pub fits : t.sent ≤ (t.lines - 1) * 2 ^ 64
   pub few : t.lines ≤ length b.lines + 1
-  pub all : sent_in t.sent (untold_lines t b) ≡ sent_in 0 (reverse b.lines)
+  pub all : sent_in t.sent (unwritten_lines t b) ≡ sent_in 0 (reverse b.lines)
 
 -- where a book has a single line more than those that were written, its step has this text as its
 -- line
-abbrev pub IsReadOf : List ℕ → Told → Book → Type 0
-IsReadOf text t b = (l : Line) → 0 < t.lines → untold_lines t b ≡ l ∷ [] → step_text l.step ≡ text ++ 10 ∷ []
+abbrev pub IsReadOf : List ℕ → Written → Book → Type 0
+IsReadOf text t b = (l : Line) → 0 < t.lines → unwritten_lines t b ≡ l ∷ [] → step_text l.step ≡ text ++ 10 ∷ []
 
 -- the same of a book that there may be
-abbrev pub IsReadOfAny : List ℕ → Told → Option Book → Type 0
+abbrev pub IsReadOfAny : List ℕ → Written → Option Book → Type 0
 IsReadOfAny text t None = Unit {0}
 IsReadOfAny text t (Some b) = IsReadOf text t b
 
 -- the lines of the boot, where nothing was written
-abbrev pub untold_boot : Told → Book → List ℕ
-untold_boot t b = if t.lines == 0 then cores_text b.boot.cores ++ boot_lines_trace (reverse b.boot.lines) else []
+abbrev pub unwritten_boot : Written → Book → List ℕ
+unwritten_boot t b = if t.lines == 0 then cores_text b.boot.cores ++ boot_lines_trace (reverse b.boot.lines) else []
 
 -- what of a book's trace was not written
-unfoldable pub untold : Told → Book → List ℕ
-untold t b = untold_boot t b ++ lines_trace t.sent (untold_lines t b)
+unfoldable pub unwritten : Written → Book → List ℕ
+unwritten t b = unwritten_boot t b ++ lines_trace t.sent (unwritten_lines t b)
 
 -- the same of a book that there may be
-abbrev pub untold_of : Told → Option Book → List ℕ
-untold_of t None = []
-untold_of t (Some b) = untold t b
+abbrev pub unwritten_of : Written → Option Book → List ℕ
+unwritten_of t None = []
+unwritten_of t (Some b) = unwritten t b
 
 -- this was written: all of a book of which this one is the same or longer
-abbrev pub IsToldUpTo : Told → Option Book → Type 0
-IsToldUpTo t k = (j : Option Book) × IsToldBy t j × IsLonger j k
+abbrev pub IsWrittenUpTo : Written → Option Book → Type 0
+IsWrittenUpTo t k = (j : Option Book) × IsWrittenBy t j × IsLonger j k

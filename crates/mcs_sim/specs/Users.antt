@@ -30,8 +30,8 @@ pub record IsKept (lines : ℕ) (line : List ℕ) : Type 0 where
   pub plain : HasNoNewline line
 
 -- what is read where this text follows the lines that have ended
-abbrev pub read_behind : Users → List ℕ → Script UserEntry × Option (ℕ × LineFault)
-read_behind u text = script_from (of_users u.asked) u.script (u.lines + 1) (lines_of text)
+abbrev pub read_after : Users → List ℕ → Script UserEntry × Option (ℕ × LineFault)
+read_after u text = script_from (of_users u.asked) u.script (u.lines + 1) (lines_of text)
 
 -- lines, each with its newline
 abbrev pub AreLines : List ℕ → Type 0
@@ -44,11 +44,11 @@ pub record TakesUsers (bytes : List ℕ) (old new : Users) : Type 0 where
   pub lines : AreLines ended
   pub count : (more : List ℕ) → old.lines + length (lines_of (ended ++ more)) ≡ new.lines + length (lines_of more)
   pub short : old.lines * (SCRIPT_LINE_BYTES + 1) + length ended ≤ new.lines * (SCRIPT_LINE_BYTES + 1)
-  pub reads : (more : List ℕ) → read_behind old (ended ++ more) ≡ read_behind new more
+  pub reads : (more : List ℕ) → read_after old (ended ++ more) ≡ read_after new more
 
 -- a fault that these bytes have, whatever follows; nothing is said where memory was refused
 abbrev pub IsFaultIn : (bytes : List ℕ) → Users → SimFault → Type 0
-IsFaultIn bytes u (fault.Script line why) = (more : List ℕ) → (read_behind u (u.line ++ bytes ++ more)).1 ≡ Some (line, why)
+IsFaultIn bytes u (fault.Script line why) = (more : List ℕ) → (read_after u (u.line ++ bytes ++ more)).1 ≡ Some (line, why)
 IsFaultIn bytes u fault.OutOfMemory = Unit {0}
 IsFaultIn bytes u _ = ⊥
 
@@ -60,7 +60,7 @@ IsFaultOfLine number read _ = ⊥
 
 -- what is read of a last line, which has no newline and may not be there
 abbrev pub read_to_end : Users → Script UserEntry × Option (ℕ × LineFault)
-read_to_end u = read_behind u u.line
+read_to_end u = read_after u u.line
 
 -- a fault of a text that has ended
 abbrev pub IsFaultAtEnd : Users → SimFault → Type 0

@@ -89,7 +89,7 @@ impl ReplayRun {
     fn end_by(&mut self, fault: SimFault) -> Result<(), SimFault>
         requires goes { self.old.course.fault ≡ None }
         ensures ended { self.new ≡ at_line (ended_by fault self.old.course) }
-        ensures told { result ≡ Err fault }
+        ensures answer { result ≡ Err fault }
     {
         self.fault = Some(fault);
         Err(fault)
@@ -99,7 +99,7 @@ impl ReplayRun {
     fn refuse(&mut self, why: LineFault) -> Result<(), SimFault>
         requires goes { self.old.course.fault ≡ None }
         ensures ended { self.new ≡ at_line (refused_for why self.old.course) }
-        ensures told { result ≡ answer_of self.new.course.fault }
+        ensures answer { result ≡ answer_of self.new.course.fault }
     {
         let line = self.lines + 1;
         self.end_by(SimFault::Script { line, why })
@@ -110,7 +110,7 @@ impl ReplayRun {
         requires goes { self.old.course.fault ≡ None }
         requires one_line { HasNoNewline part.now }
         ensures takes { Takes self.old part.now self.new }
-        ensures told { result ≡ answer_of self.new.course.fault }
+        ensures answer { result ≡ answer_of self.new.course.fault }
     {
         if part.is_empty() {
             return Ok(());
@@ -134,7 +134,7 @@ impl ReplayRun {
         requires begins { self.old.line ≡ [] }
         ensures takes { TakesLine self.old.course line.now self.new.course }
         ensures begins { self.new.line ≡ [] }
-        ensures told { result ≡ answer_of self.new.course.fault }
+        ensures answer { result ≡ answer_of self.new.course.fault }
     {
         let number = self.lines + 1;
         match self.phase.take_line(alloc, number, line) {
@@ -151,7 +151,7 @@ impl ReplayRun {
         requires goes { self.old.course.fault ≡ None }
         ensures takes { TakesLine self.old.course self.old.line self.new.course }
         ensures begins { self.new.line ≡ [] }
-        ensures told { result ≡ answer_of self.new.course.fault }
+        ensures answer { result ≡ answer_of self.new.course.fault }
     {
         let mut line = mem::replace(&mut self.line, Vec::new(alloc));
         let taken = self.take_line(alloc, &line);
@@ -165,7 +165,7 @@ impl ReplayRun {
         requires goes { self.old.course.fault ≡ None }
         requires one_line { HasNoNewline part.now }
         ensures takes { Takes self.old (part.now ++ 10 ∷ []) self.new }
-        ensures told { result ≡ answer_of self.new.course.fault }
+        ensures answer { result ≡ answer_of self.new.course.fault }
     {
         if self.line.is_empty() {
             return self.take_line(alloc, part);
@@ -181,7 +181,7 @@ impl ReplayRun {
         requires begins { self.old.line ≡ [] }
         ensures ends { EndsBoot self.old.course self.new.course }
         ensures begins { self.new.line ≡ [] }
-        ensures told { result ≡ answer_of self.new.course.fault }
+        ensures answer { result ≡ answer_of self.new.course.fault }
     {
         let next = self.lines + 1;
         if let Err(fault) = self.phase.end_boot(alloc, next) {
@@ -195,7 +195,7 @@ impl ReplayRun {
     /// fault the book is that of the steps before it, and each later call returns the same fault.
     pub fn feed(&mut self, alloc: Global, piece: &[u8]) -> Result<(), SimFault>
         ensures takes { Takes self.old piece.now self.new }
-        ensures told { result ≡ answer_of self.new.course.fault }
+        ensures answer { result ≡ answer_of self.new.course.fault }
     {
         if let Some(fault) = self.fault {
             return Err(fault);
@@ -212,7 +212,7 @@ impl ReplayRun {
     /// Fault `Script` with `NoCores` (1) if no line said the number of cores.
     pub fn end(&mut self, alloc: Global) -> Result<(), SimFault>
         ensures takes { TakesEnd self.old self.new }
-        ensures told { result ≡ answer_of self.new.course.fault }
+        ensures answer { result ≡ answer_of self.new.course.fault }
     {
         if let Some(ended) = self.fault {
             return Err(ended);
@@ -227,7 +227,7 @@ impl ReplayRun {
     /// Takes a piece of the input, or its end if the piece is empty.
     pub fn take_piece(&mut self, alloc: Global, piece: &[u8]) -> Result<(), SimFault>
         ensures takes { TakesPiece self.old piece.now self.new }
-        ensures told { result ≡ answer_of self.new.course.fault }
+        ensures answer { result ≡ answer_of self.new.course.fault }
     {
         if piece.is_empty() {
             return self.end(alloc);

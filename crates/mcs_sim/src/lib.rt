@@ -12,15 +12,13 @@
 //! adds to the trace before it reads on. The lower path is `run_text`: `users` reads to the end,
 //! and `running` runs all users on a machine and then writes. `Source` retries interrupted reads,
 //! `Script` reads lines, and `writing` writes the trace of a book, or what of it was not written
-//! yet. `startup` decides how the program ends. `laws` has what holds of all texts, however they
-//! are cut.
+//! yet. `laws` has what holds of all texts, however they are cut.
 #![tactic(auto)]
 
 mod feeding;
 mod laws;
 mod replaying;
 mod running;
-mod startup;
 mod users;
 mod writing;
 
@@ -32,6 +30,5 @@ pub use mcs_source::{ReadFault, Source};
 pub use mcs_trace::Sink;
 pub use replaying::{TracedRun, simulate};
 pub use running::run_text;
-pub use startup::{answer_status, arguments};
 pub use users::UserLines;
 pub use writing::{put_boot, trace};

@@ -1,12 +1,13 @@
 //! A script of steps, from bytes to bytes.
 ghost use Rattle.std.specs.Prelude.{◌≡◌, ◌⊎◌, ◌<◌, ◌≤◌, ◌∷◌, [], ◌++◌, IfOk, IfErr, OnOk, Err, None};
 ghost use Rattle.mcs_trace.specs.Output.{Rose, Puts, kept};
-ghost use Rattle.mcs_sim.specs.Trace.{IsToldBy, IsToldUpTo, IsReadOfAny, untold_of};
-ghost use Rattle.mcs_phases.specs.Going.{Takes, TakesPiece, HasNoNewline, answer_of, IsFairBook, no_line, at_line};
+ghost use Rattle.mcs_sim.specs.Trace.{IsWrittenBy, IsWrittenUpTo, IsReadOfAny, unwritten_of};
+ghost use Rattle.mcs_phases.specs.Going.{Takes, TakesPiece, HasNoNewline, answer_of, book_lent, IsFairBook, no_line, at_line};
 ghost use Rattle.mcs_sim.specs.Runs.{Finished, EndedBy, TellsMore, WritesMore, HasFailed, answer_with};
 
 use crate::feeding::ReplayRun;
-use crate::writing::{Told, put_read, put_untold};
+use crate::writing::{Written, put_read, put_unwritten};
+use mcs_book::Book;
 use mcs_phases::SimFault;
 use mcs_source::{PIECE, Source};
 use mcs_trace::Sink;
@@ -18,28 +19,30 @@ use std::marker::Model;
 
 /// Writes what of a run's book was not written yet, if it has one.
 #[tactic(auto, using(crate::proofs::TraceLaws::puts_nothing))]
-fn put_more<W: Write>(to: &mut Sink<W>, told: &mut Told, run: &ReplayRun)
-    requires told { IsToldUpTo told.old run.now.course.stands.book }
-    ensures puts { Puts W.contents to.old to.new (untold_of told.old run.now.course.stands.book) }
-    ensures told { IsToldBy told.new run.now.course.stands.book }
+fn put_more<W: Write>(to: &mut Sink<W>, written: &mut Written, run: &ReplayRun)
+    requires written { IsWrittenUpTo written.old run.now.course.stands.book }
+    ensures puts { Puts W.contents to.old to.new
+        (unwritten_of written.old run.now.course.stands.book) }
+    ensures written { IsWrittenBy written.new run.now.course.stands.book }
     ensures fair { IsFairBook run.now.course.stands.book }
 {
     if let Some(book) = run.book() {
-        put_untold(to, told, book);
+        put_unwritten(to, written, book);
     }
 }
 
 /// Writes what of a run's book was not written yet, if it has one; the step of a single new line
 /// was read from this text.
 #[tactic(auto, using(crate::proofs::TraceLaws::puts_nothing))]
-fn put_line<W: Write>(to: &mut Sink<W>, told: &mut Told, run: &ReplayRun, text: &[u8])
-    requires told { IsToldUpTo told.old run.now.course.stands.book }
-    requires text { IsReadOfAny text.now told.old run.now.course.stands.book }
-    ensures puts { Puts W.contents to.old to.new (untold_of told.old run.now.course.stands.book) }
-    ensures told { IsToldBy told.new run.now.course.stands.book }
+fn put_line<W: Write>(to: &mut Sink<W>, written: &mut Written, run: &ReplayRun, text: &[u8])
+    requires written { IsWrittenUpTo written.old run.now.course.stands.book }
+    requires text { IsReadOfAny text.now written.old run.now.course.stands.book }
+    ensures puts { Puts W.contents to.old to.new
+        (unwritten_of written.old run.now.course.stands.book) }
+    ensures written { IsWrittenBy written.new run.now.course.stands.book }
 {
     if let Some(book) = run.book() {
-        put_read(to, told, book, text);
+        put_read(to, written, book, text);
     }
 }
 
@@ -47,18 +50,18 @@ fn put_line<W: Write>(to: &mut Sink<W>, told: &mut Told, run: &ReplayRun, text: 
 #[derive(Drop)]
 pub struct TracedRun {
     run: ReplayRun,
-    told: Told,
+    written: Written,
 }
 
 impl Model for TracedRun {
-    ghost use Rattle.mcs_sim.specs.Trace.{IsToldBy};
+    ghost use Rattle.mcs_sim.specs.Trace.{IsWrittenBy};
     ghost use Rattle.mcs_phases.specs.Going.{Going};
 
     ghost Value = { Going };
 
     ghost view = { λ r. r.run };
 
-    ghost invariant = { λ r. IsToldBy r.told r.run.course.stands.book };
+    ghost invariant = { λ r. IsWrittenBy r.written r.run.course.stands.book };
 }
 
 impl TracedRun {
@@ -69,8 +72,17 @@ impl TracedRun {
         let run = ReplayRun::new(alloc)?;
         Ok(TracedRun {
             run,
-            told: Told::nothing(),
+            written: Written::nothing(),
         })
+    }
+
+    /// Returns the book of the steps so far; None until the boot has ended, by the first step or
+    /// the end of the input.
+    pub fn book(&self) -> Option<&Book>
+        ensures lent { book_lent result ≡ self.now.course.stands.book }
+        ensures fair { IsFairBook self.now.course.stands.book }
+    {
+        self.run.book()
     }
 
     /// Takes the rest of a line and its newline, and writes what they add to the trace.
@@ -85,15 +97,15 @@ impl TracedRun {
         ensures takes { Takes self.old (part.now ++ 10 ∷ []) self.new }
         ensures puts { TellsMore W.contents to.old to.new self.old.course.stands.book
             self.new.course.stands.book }
-        ensures told { result ≡ answer_of self.new.course.fault }
+        ensures answer { result ≡ answer_of self.new.course.fault }
     {
         if self.run.is_amid() {
             let taken = self.run.end_line(alloc, part);
-            put_more(to, &mut self.told, &self.run);
+            put_more(to, &mut self.written, &self.run);
             return taken;
         }
         let taken = self.run.take_line(alloc, part);
-        put_line(to, &mut self.told, &self.run, part);
+        put_line(to, &mut self.written, &self.run, part);
         taken
     }
 
@@ -109,7 +121,7 @@ impl TracedRun {
         ensures takes { Takes self.old piece.now self.new }
         ensures puts { TellsMore W.contents to.old to.new self.old.course.stands.book
             self.new.course.stands.book }
-        ensures told { result ≡ answer_of self.new.course.fault }
+        ensures answer { result ≡ answer_of self.new.course.fault }
     {
         let mut rest = piece;
         while let Some(i) = memchr(b'\n', rest) {
@@ -117,7 +129,7 @@ impl TracedRun {
             rest = &rest[i + 1..];
         }
         let taken = self.run.keep(rest);
-        put_more(to, &mut self.told, &self.run);
+        put_more(to, &mut self.written, &self.run);
         taken
     }
 
@@ -132,13 +144,13 @@ impl TracedRun {
         ensures takes { TakesPiece self.old piece.now self.new }
         ensures puts { TellsMore W.contents to.old to.new self.old.course.stands.book
             self.new.course.stands.book }
-        ensures told { result ≡ answer_of self.new.course.fault }
+        ensures answer { result ≡ answer_of self.new.course.fault }
     {
         if !piece.is_empty() && self.run.goes_on() {
             return self.feed(alloc, piece, to);
         }
         let taken = self.run.take_piece(alloc, piece);
-        put_more(to, &mut self.told, &self.run);
+        put_more(to, &mut self.written, &self.run);
         taken
     }
 

@@ -2,7 +2,7 @@
 ghost use Rattle.std.specs.Prelude.{◌≡◌, ◌+◌, ◌-◌, ◌*◌, ◌^◌, ◌<◌, ◌≤◌, ◌∷◌, [], ◌++◌, OnOk, OnErr, length, Err, None};
 ghost use Rattle.mcs_text.specs.Table.{step_text};
 ghost use Rattle.mcs_trace.specs.Output.{Puts, Rose};
-ghost use Rattle.mcs_sim.specs.Trace.{sent_with, sent_after, sent_in, boot_lines_trace, records_trace, line_trace, lines_trace, trace, untold_lines, untold_boot, untold, all_told, told_of, IsToldOf, IsReadOf};
+ghost use Rattle.mcs_sim.specs.Trace.{sent_with, sent_after, sent_in, boot_lines_trace, records_trace, line_trace, lines_trace, trace, unwritten_lines, unwritten_boot, unwritten, all_written, written_of, IsWrittenOf, IsReadOf};
 ghost use Rattle.mcs_sim.specs.Runs.{Writes, WritesPart};
 
 use mcs_book::{Book, Line};
@@ -96,17 +96,17 @@ fn put_read_line<W: Write>(sink: &mut Sink<W>, sent: u128, line: &Line<'_>, text
 /// How much of a book's trace was written: how many of its lines, the boot's included, and how many
 /// messages were sent in them.
 #[derive(Clone, Copy)]
-pub struct Told {
+pub struct Written {
     lines: usize,
     sent: u128,
 }
 
-impl Told {
+impl Written {
     /// Returns that nothing was written.
-    pub fn nothing() -> Told
-        ensures { result ≡ told_of None }
+    pub fn nothing() -> Written
+        ensures { result ≡ written_of None }
     {
-        Told { lines: 0, sent: 0 }
+        Written { lines: 0, sent: 0 }
     }
 }
 
@@ -114,17 +114,17 @@ impl Told {
 /// them.
 // inlined, as what it calls: the parts of a packed line stay in registers
 #[inline(always)]
-fn put_lines<W: Write>(sink: &mut Sink<W>, told: Told, book: &Book) -> u128
-    requires fits { told.sent ≤ (told.lines - 1) * 2 ^ 64 }
-    requires few { told.lines ≤ length book.now.book.lines + 1 }
+fn put_lines<W: Write>(sink: &mut Sink<W>, written: Written, book: &Book) -> u128
+    requires fits { written.sent ≤ (written.lines - 1) * 2 ^ 64 }
+    requires few { written.lines ≤ length book.now.book.lines + 1 }
     ensures puts { Puts W.contents sink.old sink.new
-        (lines_trace told.sent (untold_lines told book.now.book)) }
-    ensures sent { result ≡ sent_in told.sent (untold_lines told book.now.book) }
+        (lines_trace written.sent (unwritten_lines written book.now.book)) }
+    ensures sent { result ≡ sent_in written.sent (unwritten_lines written book.now.book) }
     ensures fits { result ≤ length book.now.book.lines * 2 ^ 64 }
 {
     // a book of 2 to the 64 lines, with as many records in each, would fill this count
-    let mut sent = told.sent;
-    for i in told.lines.max(1)..book.lines() {
+    let mut sent = written.sent;
+    for i in written.lines.max(1)..book.lines() {
         match book.line(i) {
             Some(line) => sent = put_book_line(sink, sent, &line),
             None => unreachable!(),
@@ -134,10 +134,10 @@ fn put_lines<W: Write>(sink: &mut Sink<W>, told: Told, book: &Book) -> u128
 }
 
 /// Writes the lines of the boot, if nothing was written yet.
-fn put_untold_boot<W: Write>(sink: &mut Sink<W>, told: Told, book: &Book)
-    ensures { Puts W.contents sink.old sink.new (untold_boot told book.now.book) }
+fn put_unwritten_boot<W: Write>(sink: &mut Sink<W>, written: Written, book: &Book)
+    ensures { Puts W.contents sink.old sink.new (unwritten_boot written book.now.book) }
 {
-    if told.lines != 0 {
+    if written.lines != 0 {
         return;
     }
     put_cores(sink, book.cores());
@@ -145,36 +145,36 @@ fn put_untold_boot<W: Write>(sink: &mut Sink<W>, told: Told, book: &Book)
 }
 
 /// Writes what of a book's trace was not written yet.
-#[tactic(auto, unfolding(crate::specs::Trace::untold))]
-pub fn put_untold<W: Write>(sink: &mut Sink<W>, told: &mut Told, book: &Book)
-    requires told { IsToldOf told.old book.now.book }
-    ensures puts { Puts W.contents sink.old sink.new (untold told.old book.now.book) }
-    ensures told { told.new ≡ all_told book.now.book }
-    ensures fits { told.new.sent ≤ (told.new.lines - 1) * 2 ^ 64 }
+#[tactic(auto, unfolding(crate::specs::Trace::unwritten))]
+pub fn put_unwritten<W: Write>(sink: &mut Sink<W>, written: &mut Written, book: &Book)
+    requires written { IsWrittenOf written.old book.now.book }
+    ensures puts { Puts W.contents sink.old sink.new (unwritten written.old book.now.book) }
+    ensures written { written.new ≡ all_written book.now.book }
+    ensures fits { written.new.sent ≤ (written.new.lines - 1) * 2 ^ 64 }
 {
-    put_untold_boot(sink, *told, book);
-    told.sent = put_lines(sink, *told, book);
-    told.lines = book.lines();
+    put_unwritten_boot(sink, *written, book);
+    written.sent = put_lines(sink, *written, book);
+    written.lines = book.lines();
 }
 
-/// Writes what of a book's trace was not written yet, as `put_untold` does. If the book has a
+/// Writes what of a book's trace was not written yet, as `put_unwritten` does. If the book has a
 /// single new line, its step was read from this text, which is copied.
-#[tactic(auto, unfolding(crate::specs::Trace::untold))]
-pub fn put_read<W: Write>(sink: &mut Sink<W>, told: &mut Told, book: &Book, text: &[u8])
-    requires told { IsToldOf told.old book.now.book }
-    requires text { IsReadOf text.now told.old book.now.book }
-    ensures puts { Puts W.contents sink.old sink.new (untold told.old book.now.book) }
-    ensures told { told.new ≡ all_told book.now.book }
-    ensures fits { told.new.sent ≤ (told.new.lines - 1) * 2 ^ 64 }
+#[tactic(auto, unfolding(crate::specs::Trace::unwritten))]
+pub fn put_read<W: Write>(sink: &mut Sink<W>, written: &mut Written, book: &Book, text: &[u8])
+    requires written { IsWrittenOf written.old book.now.book }
+    requires text { IsReadOf text.now written.old book.now.book }
+    ensures puts { Puts W.contents sink.old sink.new (unwritten written.old book.now.book) }
+    ensures written { written.new ≡ all_written book.now.book }
+    ensures fits { written.new.sent ≤ (written.new.lines - 1) * 2 ^ 64 }
 {
-    if told.lines == 0 || book.lines() - 1 != told.lines || text.len() >= LINE {
-        put_untold(sink, told, book);
+    if written.lines == 0 || book.lines() - 1 != written.lines || text.len() >= LINE {
+        put_unwritten(sink, written, book);
         return;
     }
-    match book.line(told.lines) {
+    match book.line(written.lines) {
         Some(line) => {
-            told.sent = put_read_line(sink, told.sent, &line, text);
-            told.lines = book.lines();
+            written.sent = put_read_line(sink, written.sent, &line, text);
+            written.lines = book.lines();
         }
         None => unreachable!(),
     }
@@ -190,7 +190,7 @@ pub fn trace<W: Write>(book: &Book, sink: &mut Sink<W>) -> Result<(), SimFault>
     ensures count { sink.old.failed ≤ sink.new.failed }
 {
     sink.start();
-    put_untold(sink, &mut Told::nothing(), book);
+    put_unwritten(sink, &mut Written::nothing(), book);
     sink.flush();
     if sink.is_broken() {
         return Err(SimFault::Write);

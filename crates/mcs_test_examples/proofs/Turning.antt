@@ -32,9 +32,9 @@ two-turns n k s some is = record { each = each; all = all }
     each (suc zero) false c h = absurd (let e : true ≡ false = ap (λ (x : Bool × ℕ). x.0) (some-same (true, turned n true k) (false, c) h) in cc)
     each (suc (suc i)) l c h = absurd cc
 
-    all : (l : Bool) (t : ℕ × ℕ) → Turns n l s t → IsAmong StandsAt ((false, turned n false k) ∷ (true, turned n true k) ∷ []) t
-    all false t step = record { place = 0; label = false; key = turned n false k; at = refl; is = step.1 ∙ ap (λ (x : ℕ). turned n false x) is }
-    all true t step = record { place = 1; label = true; key = turned n true k; at = refl; is = step.1 ∙ ap (λ (x : ℕ). turned n true x) is }
+    all : (l : Bool) (t : ℕ × ℕ) → Turns n l s t → IsAmong StandsAt ((false, turned n false k) ∷ (true, turned n true k) ∷ []) l t
+    all false t step = record { place = 0; key = turned n false k; at = refl; is = step.1 ∙ ap (λ (x : ℕ). turned n false x) is }
+    all true t step = record { place = 1; key = turned n true k; at = refl; is = step.1 ∙ ap (λ (x : ℕ). turned n true x) is }
 
 -- what was pushed, by one and one
 pub pushed : (n k a b : ℕ) (xs ys zs : List (Bool × ℕ)) → xs ≡ [] → ys ≡ xs ++ (false, a) ∷ [] → zs ≡ ys ++ (true, b) ∷ [] → a ≡ turned n false k → b ≡ turned n true k

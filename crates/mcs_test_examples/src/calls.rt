@@ -186,9 +186,12 @@ pub fn entries(alloc: Global) -> Result<[(ObjId, Entry); 5], Failed> {
     ])
 }
 
-/// Returns what a kernel says of a thread: its status, and the label and the number of words of its
-/// mail.
-fn told(kernel: &Kernel<LinkedLines>, thread: ObjId) -> (Option<Status>, Option<(u64, usize)>) {
+/// Returns what a kernel reports of a thread: its status, and the label and the number of words of
+/// its mail.
+fn thread_state(
+    kernel: &Kernel<LinkedLines>,
+    thread: ObjId,
+) -> (Option<Status>, Option<(u64, usize)>) {
     let mail = match kernel.mail(thread) {
         Some(Mail::Message { message, .. }) => Some((message.label(), message.words().len())),
         _ => None,
@@ -196,9 +199,9 @@ fn told(kernel: &Kernel<LinkedLines>, thread: ObjId) -> (Option<Status>, Option<
     (kernel.status(thread), mail)
 }
 
-/// Returns what a kernel says: how many lines its book has, and the same of both threads.
+/// Returns what a kernel reports: how many lines its book has, and the same of both threads.
 fn seen(kernel: &Kernel<LinkedLines>) -> (usize, [(Option<Status>, Option<(u64, usize)>); 2]) {
-    let threads = [1, 2].map(|serial| told(kernel, object(Kind::Thread, serial)));
+    let threads = [1, 2].map(|serial| thread_state(kernel, object(Kind::Thread, serial)));
     (kernel.book().lines(), threads)
 }
 

@@ -105,8 +105,8 @@ pub fn draw_lanes<W: Write>(rt: &HostRuntime, to: &mut W) -> Result<(), LabFault
             return Err(LabFault::Read);
         };
         let threads = threads_of(rt.alloc(), serials)?;
-        let told = look_at_lanes(rt.alloc(), file, &threads);
-        writeln!(to, "# some lanes of {script}: {told}")?;
+        let verdict = look_at_lanes(rt.alloc(), file, &threads);
+        writeln!(to, "# some lanes of {script}: {verdict}")?;
     }
     Ok(())
 }

@@ -91,7 +91,7 @@ fn joined(alloc: Global, text: &[u8], more: &[u8]) -> Result<Vec<u8>, AllocError
 
 /// Writes the trace and fault of a script that continues another. Retries the allocation of both
 /// once.
-fn write_behind(rt: &HostRuntime, name: &[u8], base: &[u8], lines: &[u8]) -> io::Result<()> {
+fn write_after(rt: &HostRuntime, name: &[u8], base: &[u8], lines: &[u8]) -> io::Result<()> {
     let script = match joined(rt.alloc(), base, lines) {
         Ok(script) => script,
         Err(_) => joined(rt.alloc(), base, lines)?,
@@ -108,10 +108,10 @@ fn write_all(rt: &HostRuntime, text: &[u8]) -> io::Result<()> {
         if rest.is_empty() {
             break;
         }
-        let (name, behind) = rest.split_at(name_length(rest));
-        let (script, others) = behind.split_at(script_length(behind));
+        let (name, after) = rest.split_at(name_length(rest));
+        let (script, others) = after.split_at(script_length(after));
         if name.starts_with(MORE) {
-            write_behind(rt, name, base, script)?;
+            write_after(rt, name, base, script)?;
         } else {
             write_given(rt, name, script)?;
             base = script;

@@ -9,6 +9,7 @@
 #![tactic(auto)]
 
 mod calls;
+mod commands;
 mod faults;
 mod flaws;
 mod forms;
@@ -31,9 +32,10 @@ use flaws::tell_flaws;
 use gallery::{draw_gallery, draw_lanes};
 use given::tell_given;
 use looks::look_at;
+use mcs_command_line::arguments;
 use mcs_lab_check::{LabFault, check};
 use mcs_lab_render::Format;
-use mcs_sim::{SimFault, Source, arguments};
+use mcs_sim::{SimFault, Source};
 use orders::explore_all;
 use patterns::tell_patterns;
 use plans::{tell_plans, try_changes};
@@ -64,8 +66,8 @@ fn draw_file<W: Write>(
     let (Ok(script), Ok(kept)) = (fs::open(rt, script), fs::read(rt, picture)) else {
         return Err(LabFault::Read);
     };
-    let told = look_at(rt.alloc(), script, kept.as_slice(), format);
-    writeln!(to, "# {picture}: {told}")?;
+    let verdict = look_at(rt.alloc(), script, kept.as_slice(), format);
+    writeln!(to, "# {picture}: {verdict}")?;
     Ok(())
 }
 

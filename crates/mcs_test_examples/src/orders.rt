@@ -143,9 +143,9 @@ pub fn is_whole(alloc: Global, text: &[u8]) -> bool {
 
 /// Returns whether the answers in a script hold.
 pub fn holds(alloc: Global, text: &[u8]) -> Result<bool, LabFault> {
-    let mut told = Vec::new(alloc);
-    let all_hold = check(alloc, &mut Source::new(text), &mut told)?;
-    Ok(all_hold && told.len() > count_steps(text))
+    let mut report = Vec::new(alloc);
+    let all_hold = check(alloc, &mut Source::new(text), &mut report)?;
+    Ok(all_hold && report.len() > count_steps(text))
 }
 
 impl Saves for Replayed {
@@ -172,7 +172,7 @@ impl Saves for Replayed {
     }
 }
 
-/// Returns the limits of a search.
+/// Returns the limits of a search; `is_exact` chooses its keys.
 pub fn wanted(is_exact: bool) -> Wanted {
     Wanted {
         states: 10_000,
@@ -287,18 +287,18 @@ fn ask<W: Write>(
 ) -> Result<(), ExploreFault> {
     let mut text = Vec::from_slice(alloc, script)?;
     text.extend_from_slice(question)?;
-    let mut told: Vec<u8> = Vec::new(alloc);
+    let mut report: Vec<u8> = Vec::new(alloc);
     let explored = explore_script(
         alloc,
         &mut Source::new(text.as_slice()),
-        &mut told,
+        &mut report,
         wanted(false),
         OUTPUT,
         &mut Nowhere,
     );
     match explored {
         Ok(_) => {
-            for line in told.split(|byte| *byte == b'\n') {
+            for line in report.split(|byte| *byte == b'\n') {
                 if is_reported(line) {
                     to.write_all(line)?;
                     to.write_all(b"\n")?;

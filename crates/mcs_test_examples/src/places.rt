@@ -12,8 +12,8 @@ const DOWN: u64 = 3;
 
 /// Returns what is between these words and the next quote.
 fn attribute<'a>(mark: &'a str, words: &str) -> Option<&'a str> {
-    let (_, behind) = mark.split_once(words)?;
-    let (value, _) = behind.split_once('"')?;
+    let (_, after) = mark.split_once(words)?;
+    let (value, _) = after.split_once('"')?;
     Some(value)
 }
 
@@ -52,8 +52,8 @@ fn text_place(mark: &str) -> Option<Place> {
     let class = attribute(mark, " class=\"")?;
     let x = number(mark, " x=\"")?;
     let y = number(mark, " y=\"")?;
-    let (_, behind) = mark.split_once('>')?;
-    let (text, _) = behind.split_once('<')?;
+    let (_, after) = mark.split_once('>')?;
+    let (text, _) = after.split_once('<')?;
     let width = columns(text).saturating_mul(COLUMN);
     let left = match class {
         "label" | "head-text" | "head-more" => x.saturating_sub(width / 2),

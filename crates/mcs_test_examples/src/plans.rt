@@ -71,7 +71,7 @@ fn text_of(alloc: Global, compiled: &Compiled) -> Result<String, LabFault> {
 }
 
 /// Returns the script of a plan, or the message about its fault.
-pub fn told_of(alloc: Global, plan: &[u8]) -> Result<String, LabFault> {
+pub fn script_of(alloc: Global, plan: &[u8]) -> Result<String, LabFault> {
     match load(alloc, plan) {
         Ok(loaded) => text_of(alloc, &loaded.compiled),
         Err(fault) => Ok(format!(in alloc; "{fault}")?),
@@ -96,13 +96,13 @@ fn compare<W: Write>(
     has_steps: bool,
 ) -> Result<(), LabFault> {
     let kept = read_text(rt, format!(in rt.alloc(); "{name}.mcs")?.as_str())?;
-    let script = told_of(rt.alloc(), &plan_of(rt, name)?)?;
-    let told = if has_steps && trace_of(rt.alloc(), script.as_bytes())?.is_none() {
+    let script = script_of(rt.alloc(), &plan_of(rt, name)?)?;
+    let verdict = if has_steps && trace_of(rt.alloc(), script.as_bytes())?.is_none() {
         "WITH A FAULT"
     } else {
         word_of(script.as_str() == kept.as_str())
     };
-    writeln!(to, "# {name}.plan: {told}")?;
+    writeln!(to, "# {name}.plan: {verdict}")?;
     Ok(())
 }
 
@@ -115,8 +115,8 @@ fn are_done(alloc: Global, trace: &[u8]) -> Result<bool, LabFault> {
 
 /// Compiles a plan of 300 slots in one space, and runs steps over its first and its last name.
 fn try_large<W: Write>(rt: &HostRuntime, to: &mut W) -> Result<(), LabFault> {
-    let script = told_of(rt.alloc(), &plan_of(rt, "plans/large")?)?;
-    let told = match trace_of(rt.alloc(), script.as_bytes())? {
+    let script = script_of(rt.alloc(), &plan_of(rt, "plans/large")?)?;
+    let verdict = match trace_of(rt.alloc(), script.as_bytes())? {
         Some(trace) => {
             if are_done(rt.alloc(), &trace)? {
                 "both done"
@@ -126,7 +126,7 @@ fn try_large<W: Write>(rt: &HostRuntime, to: &mut W) -> Result<(), LabFault> {
         }
         None => "WITH A FAULT",
     };
-    writeln!(to, "# plans/large.plan: {told}")?;
+    writeln!(to, "# plans/large.plan: {verdict}")?;
     Ok(())
 }
 
@@ -154,11 +154,11 @@ fn try_names<W: Write>(rt: &HostRuntime, to: &mut W) -> Result<(), LabFault> {
         return Ok(());
     };
     let map = write_map(rt.alloc(), &compiled.script)?;
-    let told = word_of(map.as_str() == kept.as_str());
-    writeln!(to, "# gallery/own-spaces.map: {told}")?;
+    let verdict = word_of(map.as_str() == kept.as_str());
+    writeln!(to, "# gallery/own-spaces.map: {verdict}")?;
     let named = tell_names(rt.alloc(), &compiled.read, LINES.as_bytes())?;
-    let told = word_of(named.as_slice() == NAMED.as_bytes());
-    writeln!(to, "# names: {told}")?;
+    let verdict = word_of(named.as_slice() == NAMED.as_bytes());
+    writeln!(to, "# names: {verdict}")?;
     Ok(())
 }
 
@@ -169,11 +169,11 @@ fn try_faults<W: Write>(rt: &HostRuntime, to: &mut W, name: &str) -> Result<(), 
     let mut wanted = wanted.lines();
     let mut count: usize = 0;
     for plan in faults.split("%%%\n") {
-        let told = told_of(rt.alloc(), plan.as_bytes())?;
-        if wanted.next() == Some(told.as_str()) {
+        let verdict = script_of(rt.alloc(), plan.as_bytes())?;
+        if wanted.next() == Some(verdict.as_str()) {
             count = count.saturating_add(1);
         } else {
-            writeln!(to, "# NOT AS KEPT: {told}")?;
+            writeln!(to, "# NOT AS KEPT: {verdict}")?;
         }
     }
     writeln!(to, "# {name}.txt: {count} as kept")?;

@@ -8,7 +8,7 @@ use std::alloc::{AllocError, Global};
 use std::io::Write;
 
 /// A system of n states, numbered from 0, with two steps from each: to the next and to the double.
-/// The number of steps so far is no part of the key.
+/// The number of steps so far is not part of the key.
 #[derive(Drop)]
 pub struct Ring {
     pub n: u32,

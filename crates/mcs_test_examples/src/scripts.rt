@@ -5,23 +5,23 @@ use std::alloc::Global;
 
 /// The results of a script: its trace, and the fault that ended it, if any.
 #[derive(Drop)]
-pub struct Told {
+pub struct RunResult {
     pub trace: Vec<u8>,
     pub fault: Option<SimFault>,
 }
 
-impl Told {
-    fn is_same(&self, other: &Told) -> bool {
+impl RunResult {
+    fn is_same(&self, other: &RunResult) -> bool {
         self.trace == other.trace && self.fault == other.fault
     }
 }
 
 /// Returns the results; a failed write becomes OutOfMemory, since the writer is memory.
-fn given(trace: Vec<u8>, ended: Result<(), SimFault>) -> Result<Told, OutOfMemory> {
+fn given(trace: Vec<u8>, ended: Result<(), SimFault>) -> Result<RunResult, OutOfMemory> {
     match ended {
-        Ok(()) => Ok(Told { trace, fault: None }),
+        Ok(()) => Ok(RunResult { trace, fault: None }),
         Err(SimFault::OutOfMemory | SimFault::Write) => Err(OutOfMemory),
-        Err(fault) => Ok(Told {
+        Err(fault) => Ok(RunResult {
             trace,
             fault: Some(fault),
         }),
@@ -29,7 +29,7 @@ fn given(trace: Vec<u8>, ended: Result<(), SimFault>) -> Result<Told, OutOfMemor
 }
 
 /// Returns the results of a script that is read to its end.
-fn replayed(alloc: Global, script: &[u8]) -> Result<Told, OutOfMemory> {
+fn replayed(alloc: Global, script: &[u8]) -> Result<RunResult, OutOfMemory> {
     let mut text = Vec::new(alloc);
     let result = simulate(
         alloc,
@@ -67,16 +67,21 @@ fn fed(
 }
 
 /// Returns the results of a script as a whole, retrying once after a failed allocation.
-fn replayed_again(alloc: Global, script: &[u8]) -> Result<Told, OutOfMemory> {
+fn replayed_again(alloc: Global, script: &[u8]) -> Result<RunResult, OutOfMemory> {
     match replayed(alloc, script) {
-        Ok(told) => Ok(told),
+        Ok(result) => Ok(result),
         Err(OutOfMemory) => replayed(alloc, script),
     }
 }
 
 /// Returns whether a script gives these results in pieces, retrying once after a failed allocation;
 /// after a fault the book's trace is a prefix.
-fn is_fed(alloc: Global, script: &[u8], piece: usize, whole: &Told) -> Result<bool, OutOfMemory> {
+fn is_fed(
+    alloc: Global,
+    script: &[u8],
+    piece: usize,
+    whole: &RunResult,
+) -> Result<bool, OutOfMemory> {
     let (text, ended) = match fed(alloc, script, piece) {
         Ok((text, Err(SimFault::OutOfMemory))) if !whole.trace.starts_with(&text) => {
             return Ok(false);
@@ -89,7 +94,10 @@ fn is_fed(alloc: Global, script: &[u8], piece: usize, whole: &Told) -> Result<bo
 
 /// Returns the results of a script, and what is wrong with them, if anything: fed in pieces of 1 or
 /// 7 bytes or as a whole it gives others, or its trace does not replay to itself.
-pub fn given_by(alloc: Global, script: &[u8]) -> Result<(Told, Option<&'static str>), OutOfMemory> {
+pub fn given_by(
+    alloc: Global,
+    script: &[u8],
+) -> Result<(RunResult, Option<&'static str>), OutOfMemory> {
     let whole = replayed_again(alloc, script)?;
     for piece in [1, 7, usize::MAX] {
         if !is_fed(alloc, script, piece, &whole)? {

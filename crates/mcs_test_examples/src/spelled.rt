@@ -48,8 +48,8 @@ pub fn tell_spelled<W: Write>(rt: &HostRuntime, to: &mut W) -> Result<(), LabFau
     }
     let reports = reports_on(rt.alloc(), &planned.script.text)?;
     for (form, report) in &reports {
-        let told = planned.retell(rt.alloc(), &planned.script, report, *form)?;
-        to.write_all(&told)?;
+        let reworded = planned.retell(rt.alloc(), &planned.script, report, *form)?;
+        to.write_all(&reworded)?;
     }
     Ok(())
 }

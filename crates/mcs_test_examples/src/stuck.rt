@@ -1,5 +1,5 @@
-//! Reports on scripts that end with stuck threads, each beside a similar one without, on one whose
-//! messages are dropped, and the whole state at the end of two.
+//! Reports on scripts that end with stuck threads, each beside a similar one without stuck threads,
+//! and on one whose messages are dropped; and the whole state at the end of two scripts.
 use mcs_lab_check::LabFault;
 use mcs_lab_inspect::{Numbers, Wanted, explain, show_state};
 use mcs_sim::Source;
@@ -17,7 +17,7 @@ const SCRIPTS: &[(&str, bool)] = &[
     ("kernel/addresses.mcs", false),
 ];
 
-/// Returns the word for whether both commands agree about stuck threads.
+/// Returns the text for whether some thread is stuck, on which both commands must agree.
 fn word_of(is_free: bool, seems_free: bool) -> &'static str {
     match (is_free, seems_free) {
         (true, true) => "none is stuck",
@@ -46,8 +46,8 @@ fn tell_script<W: Write + Drop>(
         numbers: Numbers::Integers,
     };
     let seems_free = show_state(rt.alloc(), &mut Source::new(again), &mut *to, wanted)?;
-    let told = word_of(is_free, seems_free);
-    writeln!(to, "# {path}: {told}")?;
+    let verdict = word_of(is_free, seems_free);
+    writeln!(to, "# {path}: {verdict}")?;
     Ok(())
 }
 

@@ -1,6 +1,6 @@
 //! Draws runs: whether each replays, and what one shows; and the one run of each of some systems.
 use crate::orders::{SCRIPTS, count_steps, holds, is_whole};
-use crate::plans::{read_text, told_of};
+use crate::plans::{read_text, script_of};
 use mcs_explore_questions::ExploreFault;
 use mcs_explore_run::{Chances, Drawn, draw_run, tell_runs};
 use mcs_explore_script::read_script;
@@ -19,7 +19,7 @@ const TURNS: u64 = 100;
 const WRITTEN: &str = "programs/restarted.mcs";
 
 /// The scripts for which many runs are reported, and how many.
-const TOLD: &[&str] = &["explore/lost-signal.mcs", "explore/mutex.mcs"];
+const SHOWN: &[&str] = &["explore/lost-signal.mcs", "explore/mutex.mcs"];
 
 const RUNS: usize = 200;
 
@@ -82,7 +82,7 @@ impl Walks {
 /// Returns the script of the run of a system, the plan before a line `---`.
 fn run_of(rt: &HostRuntime, case: &str) -> Result<String, ExploreFault> {
     let plan = case.split("---\n").next().unwrap_or("");
-    let text = told_of(rt.alloc(), plan.as_bytes())?;
+    let text = script_of(rt.alloc(), plan.as_bytes())?;
     let script = read_script(rt.alloc(), &mut Source::new(text.as_bytes()))?;
     let run = draw_run(rt.alloc(), &script, b"", 1, TURNS)?;
     Ok(String::from_utf8_lossy(rt.alloc(), &run.text)?)
@@ -133,7 +133,7 @@ pub fn draw_walks<W: Write>(rt: &HostRuntime, to: &mut W) -> Result<(), ExploreF
         "of {count} runs of {turns} turns {over} are over, {whole} replayed whole, {checked} checked"
     )?;
     to.write_all(&drawn(rt, WRITTEN, 1)?.text)?;
-    for path in TOLD {
+    for path in SHOWN {
         tell_many(rt, to, path)?;
     }
     compare_cases(rt, to)

@@ -1,4 +1,4 @@
-pub mod Behind
+pub mod After
 pub mod Digits
 pub mod Lines
 pub mod Outputs

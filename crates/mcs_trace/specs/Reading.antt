@@ -19,8 +19,8 @@ abbrev pub IsMessageText : List ℕ → ℕ → List ℕ → Type 0
 IsMessageText text label words = (text ≡ message_text label words) × (length text ≤ MESSAGE)
 
 -- the text of a message is in a line after this many bytes
-abbrev pub StandsBehind : List ℕ → ℕ → ℕ → List ℕ → Type 0
-StandsBehind line front label words = (front ≤ length line) × (drop front line ≡ message_text label words)
+abbrev pub IsAfter : List ℕ → ℕ → ℕ → List ℕ → Type 0
+IsAfter line front label words = (front ≤ length line) × (drop front line ≡ message_text label words)
 
 -- what is before the message of an entry: who enters, the word of the entry, and an address
 abbrev pub front_text : Entrant → Key → ℕ → List ℕ

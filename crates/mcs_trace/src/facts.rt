@@ -8,6 +8,7 @@ ghost use Rattle.mcs_text.specs.Spelling.{then_text, token_text};
 ghost use Rattle.mcs_text.specs.Table.{form, how_key, end_key, joins_form, form_text, fact_text, record_text};
 
 use crate::line::Line;
+use crate::reading::Wording;
 use crate::rooms::{LINE, WORD};
 use mcs_text::{Key, Token};
 use mcs_types::{Cap, Ending, MESSAGE_WORDS, Mode, ObjId, Queue, Rec, SendMode};
@@ -219,16 +220,15 @@ impl Line {
         between: (ObjId, ObjId),
         mode: SendMode,
         badge: u64,
-        label: u64,
-        words: &[u64],
-        text: Option<&[u8]>,
+        message: Wording<'_>,
     )
-        requires few { length words.now ≤ MESSAGE_WORDS }
-        requires text { IfSome text (λ t. IsMessageText t.now label words.now) }
+        requires few { length message.words.now ≤ MESSAGE_WORDS }
+        requires text { IfSome message.text
+            (λ t. IsMessageText t.now message.label message.words.now) }
         requires room { HasRoom self.old LINE }
         ensures { self.new ≡ self.old ++ form_text (form (Token.Key Key.Sent)
             (Token.Message sent ∷ Token.Name between.0 ∷ Token.Name between.1 ∷ how_key mode ∷ [])
-            (badge ∷ label ∷ words.now)) }
+            (badge ∷ message.entry.label ∷ message.entry.words.now)) }
     {
         self.key(Key::Sent);
         self.spaced_message(sent);
@@ -236,31 +236,26 @@ impl Line {
         self.spaced_name(between.1);
         self.how(mode);
         self.spaced(badge);
-        self.message_or_text(label, words, text);
+        self.message_or_text(message);
         self.byte(b'\n');
     }
 
     /// Appends the record of an answer to a caller.
     #[inline(always)]
     #[tactic(auto, unfolding(mcs_text::specs::Spelling::line_text))]
-    pub fn paid(
-        &mut self,
-        reply: ObjId,
-        caller: ObjId,
-        label: u64,
-        words: &[u64],
-        text: Option<&[u8]>,
-    )
-        requires few { length words.now ≤ MESSAGE_WORDS }
-        requires text { IfSome text (λ t. IsMessageText t.now label words.now) }
+    pub fn paid(&mut self, reply: ObjId, caller: ObjId, message: Wording<'_>)
+        requires few { length message.words.now ≤ MESSAGE_WORDS }
+        requires text { IfSome message.text
+            (λ t. IsMessageText t.now message.label message.words.now) }
         requires room { HasRoom self.old LINE }
         ensures { self.new ≡ self.old ++ form_text (form (Token.Key Key.Paid)
-            (Token.Name reply ∷ Token.Name caller ∷ []) (label ∷ words.now)) }
+            (Token.Name reply ∷ Token.Name caller ∷ [])
+            (message.entry.label ∷ message.entry.words.now)) }
     {
         self.key(Key::Paid);
         self.spaced_name(reply);
         self.spaced_name(caller);
-        self.message_or_text(label, words, text);
+        self.message_or_text(message);
         self.byte(b'\n');
     }
 

@@ -49,7 +49,7 @@ impl Line {
         self.end
     }
 
-    /// The text.
+    /// Returns the text.
     pub fn text(&self) -> &[u8]
         ensures { result.now ≡ self.now }
     {

@@ -6,6 +6,7 @@ ghost use Rattle.mcs_trace.specs.Reading.{IsMessageText, message_text};
 ghost use Rattle.mcs_text.specs.Spelling.{pair, four, eight, then_text};
 
 use crate::line::Line;
+use crate::reading::Wording;
 use crate::rooms::{COUNT, MESSAGE, NUMBER};
 use itoa::Buffer;
 use mcs_types::MESSAGE_WORDS;
@@ -296,17 +297,19 @@ impl Line {
         self.numbers(words);
     }
 
-    /// Appends the label and the words of a message, copied from `text` if that is given.
+    /// Appends the label and the words of a message, copied from their text if that was read.
     #[inline(always)]
-    pub fn message_or_text(&mut self, label: u64, words: &[u64], text: Option<&[u8]>)
-        requires few { length words.now ≤ MESSAGE_WORDS }
-        requires text { IfSome text (λ t. IsMessageText t.now label words.now) }
+    pub fn message_or_text(&mut self, message: Wording<'_>)
+        requires few { length message.words.now ≤ MESSAGE_WORDS }
+        requires text { IfSome message.text
+            (λ t. IsMessageText t.now message.label message.words.now) }
         requires room { HasRoom self.old MESSAGE }
-        ensures { Adds self.old self.new MESSAGE (message_text label words.now) }
+        ensures { Adds self.old self.new MESSAGE
+            (message_text message.entry.label message.entry.words.now) }
     {
-        match text {
+        match message.text {
             Some(text) => self.bytes(text),
-            None => self.message(label, words),
+            None => self.message(message.label, message.words),
         }
     }
 }

@@ -4,7 +4,7 @@ ghost use Rattle.mcs_types.specs.declared.entry.Entry.{Entry};
 ghost use Rattle.mcs_packing.specs.Entries.{sending};
 ghost use Rattle.mcs_text.specs.Table.{step_by, step_text};
 ghost use Rattle.mcs_text.specs.Keys.{key_text};
-ghost use Rattle.mcs_trace.specs.Reading.{IsMessageText, StandsBehind, front_text, sending_key};
+ghost use Rattle.mcs_trace.specs.Reading.{IsMessageText, IsAfter, front_text, sending_key};
 
 use crate::numbers::number_length;
 use crate::records::words_at;
@@ -12,6 +12,14 @@ use crate::rooms::{FRONT, KEY, MESSAGE};
 use mcs_packing::{KeptStep, PackedEntry, Sending, address_at, id_of};
 use mcs_text::{Entrant, Key};
 use std::marker::Model;
+
+/// A message as it is written: its label, its words, and the text of both if that was read.
+#[derive(Clone, Copy)]
+pub struct Wording<'a> {
+    pub label: u64,
+    pub words: &'a [u64],
+    pub text: Option<&'a [u8]>,
+}
 
 /// Returns how many bytes a fixed word has.
 #[inline(always)]
@@ -34,7 +42,7 @@ fn front_length(from: Entrant, key: Key, address: u64) -> usize
     core + 2 + thread + 1 + key_length(key) + 1 + number_length(address)
 }
 
-/// The key of an entry that sends a message.
+/// Returns the key of an entry that sends a message.
 #[inline(always)]
 fn sending_key(form: Sending) -> Key
     ensures { result ≡ sending_key form }
@@ -48,14 +56,14 @@ fn sending_key(form: Sending) -> Key
 
 /// Returns the text of a message, if it is that of a line, after `front` bytes.
 #[inline(always)]
-fn text_behind<'a>(
+fn text_after<'a>(
     line: &'a [u8],
     front: usize,
     read: (u64, &[u64]),
     label: u64,
     words: &[u64],
 ) -> Option<&'a [u8]>
-    requires { StandsBehind line.now front read.0 read.1.now }
+    requires { IsAfter line.now front read.0 read.1.now }
     ensures { IfSome result (λ t. IsMessageText t.now label words.now) }
 {
     let text = &line[front..];
@@ -82,7 +90,7 @@ fn sent_text<'a>(
     ensures { IfSome result (λ t. IsMessageText t.now label words.now) }
 {
     let front = front_length(from, sending_key(form), address);
-    text_behind(line, front, read, label, words)
+    text_after(line, front, read, label, words)
 }
 
 /// Returns the text of a message, if it is that of the line of a step that replies and receives.
@@ -102,7 +110,7 @@ fn replied_text<'a>(
 {
     let first = front_length(from, Key::ReplyRecv, cap);
     let last = number_length(reply);
-    text_behind(line, first + 1 + last, read, label, words)
+    text_after(line, first + 1 + last, read, label, words)
 }
 
 /// A packed step, and the line from which it was read. Clauses see the step.

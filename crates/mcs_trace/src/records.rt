@@ -1,21 +1,19 @@
 //! Writes the lines of packed records and answers.
-ghost use Rattle.std.specs.Prelude.{◌≡◌, ◌≤◌, ◌+◌, ◌∷◌, [], ◌++◌, IfSome, length};
+ghost use Rattle.std.specs.Prelude.{◌≡◌, ◌≤◌, ◌+◌, ◌++◌, IfSome, length};
 ghost use Rattle.mcs_trace.specs.Room.{HasRoom};
 ghost use Rattle.mcs_trace.specs.Reading.{IsMessageText};
-ghost use Rattle.mcs_text.specs.Table.{record_text, answer_text, step_text};
+ghost use Rattle.mcs_text.specs.Table.{record_text, answer_text};
 ghost use Rattle.mcs_packing.specs.Packing.{Fits, IsMessageAt, IsOfBond, IsOfDebt, IsOfMarked, IsOfMessage, IsOfObject, IsOfSlot, IsOfThread, IsOfWord, content_at, record_of, object};
-ghost use Rattle.mcs_packing.specs.Entries.{EntryFits, entry_of};
 ghost use Rattle.mcs_packing.specs.Heads.{AnswerFits, answer_of};
 
 use crate::line::Line;
-use crate::reading::ReadStep;
+use crate::reading::{ReadStep, Wording};
 use crate::rooms::LINE;
 use mcs_packing::{
-    AnswerForm, KeptStep, Packed, PackedEntry, guarded, id_of, plain, queue_of, serial_behind,
-    thread_id,
+    AnswerForm, KeptStep, Packed, guarded, id_of, plain, queue_of, serial_behind, thread_id,
 };
 use mcs_text::Key;
-use mcs_types::{Cap, CoreId, Kind, MESSAGE_WORDS, ObjId, Rec};
+use mcs_types::{Cap, Kind, MESSAGE_WORDS, Message, Rec};
 
 /// Returns the words of a message at a position.
 #[inline(always)]
@@ -296,16 +294,10 @@ fn write_message_of(
             let between = (thread_id(*sender), id_of(Kind::Endpoint, *endpoint));
             let badge = words[*at as usize + 1 + *len as usize];
             let label = words[*at as usize];
-            let rest = words_at(words, *at, *len);
-            line.sent(
-                sent,
-                between,
-                *mode,
-                badge,
-                label,
-                rest,
-                text_of(read, label, rest),
-            )
+            let words = words_at(words, *at, *len);
+            let text = text_of(read, label, words);
+            let message = Wording { label, words, text };
+            line.sent(sent, between, *mode, badge, message)
         }
         Packed::Paid {
             len,
@@ -315,8 +307,10 @@ fn write_message_of(
         } => {
             let (reply, caller) = (id_of(Kind::Reply, *reply), thread_id(*caller));
             let label = words[*at as usize];
-            let rest = words_at(words, *at, *len);
-            line.paid(reply, caller, label, rest, text_of(read, label, rest))
+            let words = words_at(words, *at, *len);
+            let text = text_of(read, label, words);
+            let message = Wording { label, words, text };
+            line.paid(reply, caller, message)
         }
         _ => unreachable!(),
     }
@@ -335,7 +329,7 @@ fn write_message(line: &mut Line, sent: u128, packed: &Packed, words: &[u64], wi
 
 /// Writes the record of a message sent or of a reply. Its text is copied from the line of this
 /// step, which was read, if it is the same.
-// the parts of the step as separate arguments, so that other records need not build a step
+// copies the step for the call, so that its parts stay in registers for other records
 #[inline(always)]
 fn write_read_message(
     line: &mut Line,
@@ -343,32 +337,41 @@ fn write_read_message(
     packed: &Packed,
     words: &[u64],
     wide: &[Rec],
-    core: CoreId,
-    thread: ObjId,
-    entry: &PackedEntry,
-    kept: &[u64],
-    text: &[u8],
+    read: &ReadStep<'_>,
 )
     requires of { IsOfMessage packed.now }
     requires fits { Fits packed.now words.now wide.now }
-    requires entry { EntryFits entry.now kept.now }
-    requires text { step_text (record {
-      core = core;
-      thread = thread;
-      entry = entry_of entry.now kept.now;
-    }) ≡ text.now ++ 10 ∷ [] }
     requires room { HasRoom line.old LINE }
     ensures { line.new ≡ line.old ++ record_text sent (record_of packed.now words.now wide.now) }
 {
     let step = KeptStep {
-        core,
-        kind: thread.kind,
-        serial: thread.serial,
-        entry,
-        words: kept,
+        core: read.step.core,
+        kind: read.step.kind,
+        serial: read.step.serial,
+        entry: read.step.entry,
+        words: read.step.words,
     };
-    let read = ReadStep { step, line: text };
-    write_message_of(line, sent, packed, words, wide, Some(&read))
+    let copy = ReadStep {
+        step,
+        line: read.line,
+    };
+    write_message_of(line, sent, packed, words, wide, Some(&copy))
+}
+
+/// Returns a message of which no text was read.
+#[inline(always)]
+fn unread(message: &Message) -> Wording<'_>
+    ensures label { result.label ≡ message.now.label }
+    ensures words { result.words.now ≡ message.now.words }
+    ensures few { length result.words.now ≤ MESSAGE_WORDS }
+    ensures text { result.text ≡ None }
+{
+    message.is_in_range();
+    Wording {
+        label: message.label(),
+        words: message.words(),
+        text: None,
+    }
 }
 
 /// Writes the line of an unpacked record, before which `sent` messages were sent: a table, with an
@@ -396,16 +399,8 @@ fn write_record(line: &mut Line, sent: u128, fact: &Rec)
             badge,
             message,
         } => {
-            message.is_in_range();
-            line.sent(
-                sent,
-                (*sender, *endpoint),
-                *mode,
-                badge.0,
-                message.label(),
-                message.words(),
-                None,
-            )
+            let between = (*sender, *endpoint);
+            line.sent(sent, between, *mode, badge.0, unread(message))
         }
         Rec::Took { message, thread } => { line.took(*message, *thread) }
         Rec::Dropped { message } => line.dropped(*message),
@@ -418,10 +413,7 @@ fn write_record(line: &mut Line, sent: u128, fact: &Rec)
             reply,
             caller,
             message,
-        } => {
-            message.is_in_range();
-            line.paid(*reply, *caller, message.label(), message.words(), None)
-        }
+        } => line.paid(*reply, *caller, unread(message)),
         Rec::Void {
             reply,
             caller,
@@ -495,14 +487,7 @@ pub fn write_kept(
         }
         Packed::Sent { .. } | Packed::Paid { .. } => match read {
             None => write_message(line, sent, packed, words, wide),
-            Some(read) => {
-                let thread = id_of(read.step.kind, read.step.serial);
-                let (core, entry) = (read.step.core, read.step.entry);
-                let (kept, text) = (read.step.words, read.line);
-                write_read_message(
-                    line, sent, packed, words, wide, core, thread, entry, kept, text,
-                )
-            }
+            Some(read) => write_read_message(line, sent, packed, words, wide, read),
         },
         Packed::Wide { at } => write_record(line, sent, &wide[*at as usize]),
     }

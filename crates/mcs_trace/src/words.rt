@@ -51,6 +51,7 @@ impl Line {
         self.key(key);
     }
 
+    /// Appends the letter of a flag, if the rights have it.
     #[inline(always)]
     fn letter_if(&mut self, flag: u8, letter: u8, rights: Rights)
         requires { HasRoom self.old 1 }
@@ -140,6 +141,7 @@ impl Line {
         self.maybe(o);
     }
 
+    /// Appends the name of a message.
     #[inline(always)]
     fn message_name(&mut self, number: u128)
         requires { HasRoom self.old (1 + COUNT) }

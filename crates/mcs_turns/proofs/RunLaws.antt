@@ -7,7 +7,7 @@ use Rattle.mcs_turns.specs.declared.position.Pick.{Pick}
 use Rattle.mcs_turns.specs.declared.position.Position.{Position}
 use Rattle.mcs_turns.specs.declared.reached.Reached.{Reached}
 use Rattle.mcs_turns.specs.Due.{stale_after, none_stale}
-use Rattle.mcs_turns.specs.Turns.{User, Going, put_at, all_told, behind, entered, given, outcome, saved_at, started, AreInRange, IsRun}
+use Rattle.mcs_turns.specs.Turns.{User, Going, put_at, all_answered, position_after, entered, given, outcome, saved_at, started, AreInRange, IsRun}
 use Rattle.mcs_turns.specs.Mail.{reached_from}
 use Rattle.mcs_types.specs.declared.entry.Step.{Step}
 use Rattle.mcs_turns.proofs.Settling.{filled-range}
@@ -39,14 +39,14 @@ length-map : (users : List User) → length (map started users) ≡ length users
 length-map [] = refl
 length-map (u ∷ us) = ap (λ n. suc n) (length-map us)
 
-length-told : (rs : List Reached) (own i : ℕ) (us : List User) (ps : List Position) → length (all_told rs own i us ps) ≡ length ps
-length-told rs own i us [] = refl
-length-told rs own i us (p ∷ ps) = ap (λ n. suc n) (length-told rs own (i + 1) us ps)
+length-answered : (rs : List Reached) (own i : ℕ) (us : List User) (ps : List Position) → length (all_answered rs own i us ps) ≡ length ps
+length-answered rs own i us [] = refl
+length-answered rs own i us (p ∷ ps) = ap (λ n. suc n) (length-answered rs own (i + 1) us ps)
 
 long-entered : (users : List User) (picks : List (List Pick)) (u : User) (s : Step) (k : Pick) (g : Going) → length (entered users picks u s k g).places ≡ length g.places
 long-entered users picks u s k g =
-    let there = behind u k.number (saved_at g k.user) (outcome g.book s).answer in
-    length-told (reached_from None (outcome g.book s).records) k.user 0 users (put_at k.user there g.places) ∙ length-put k.user there g.places
+    let there = position_after u k.number (saved_at g k.user) (outcome g.book s).answer in
+    length-answered (reached_from None (outcome g.book s).records) k.user 0 users (put_at k.user there g.places) ∙ length-put k.user there g.places
 
 -- how long the parts of a run are
 pub record IsLong (users : List User) (boot : Boot) (n : ℕ) (g : Going) : Type 0 where

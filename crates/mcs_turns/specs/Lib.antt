@@ -1,5 +1,5 @@
 pub mod Due
 pub mod Mail
 pub mod Programs
-pub mod Told
+pub mod AnswerRef
 pub mod Turns

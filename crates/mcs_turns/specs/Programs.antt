@@ -38,27 +38,27 @@ with_saved s slot.C n = record s { c = n }
 with_saved s slot.D n = record s { d = n }
 
 -- the badge of the result, or the word that was heard
-abbrev pub badge_told : Answer → ℕ
-badge_told (answer.Got badge message) = badge.0
-badge_told (answer.Heard word) = word
-badge_told a = 0
+abbrev pub answer_badge : Answer → ℕ
+answer_badge (answer.Got badge message) = badge.0
+answer_badge (answer.Heard word) = word
+answer_badge a = 0
 
 -- the label of the result
-abbrev pub label_told : Answer → ℕ
-label_told (answer.Got badge message) = message.label
-label_told a = 0
+abbrev pub answer_label : Answer → ℕ
+answer_label (answer.Got badge message) = message.label
+answer_label a = 0
 
 -- a word of the message of the result, by its number from 0
-abbrev pub word_told : Answer → ℕ → ℕ
-word_told (answer.Got badge message) i = unwrap_or (slice_get message.words i) 0
-word_told a i = 0
+abbrev pub answer_word : Answer → ℕ → ℕ
+answer_word (answer.Got badge message) i = unwrap_or (slice_get message.words i) 0
+answer_word a i = 0
 
 -- the number for which something stands
 abbrev pub read : Answer → Saved → Source → ℕ
 read t s (source.Number n) = n
-read t s source.Badge = badge_told t
-read t s source.Label = label_told t
-read t s (source.Word i) = word_told t i
+read t s source.Badge = answer_badge t
+read t s source.Label = answer_label t
+read t s (source.Word i) = answer_word t i
 read t s (source.Saved x) = saved_in s x
 
 abbrev pub is_got : Answer → Bool

@@ -128,19 +128,19 @@ abbrev pub started : User → Position
 started u = gone_on (starts u.ops) u begun
 
 -- the position of a list after an entry that was accepted with an answer
-abbrev pub listed_behind : User → ℕ → Saved → Answer → Position
-listed_behind u number s a = record (moved_past number a) { next = again_by u.again (length u.entries) (number + 1); saved = s }
+abbrev pub listed_after : User → ℕ → Saved → Answer → Position
+listed_after u number s a = record (moved_past number a) { next = again_by u.again (length u.entries) (number + 1); saved = s }
 
 -- the position of a user whose entry waits: which entry its program gives next is not known yet
-abbrev pub waiting_behind : List Op → User → ℕ → Saved → Position
-waiting_behind [] u number s = listed_behind u number s answer.Waits
-waiting_behind (o ∷ os) u number s = record (moved_past number answer.Waits) { next = length u.entries + 1; saved = s }
+abbrev pub waiting_after : List Op → User → ℕ → Saved → Position
+waiting_after [] u number s = listed_after u number s answer.Waits
+waiting_after (o ∷ os) u number s = record (moved_past number answer.Waits) { next = length u.entries + 1; saved = s }
 
 -- the position of a user after an entry that was accepted with an answer: a program continues by
 -- the result
-abbrev pub behind : User → ℕ → Saved → Answer → Position
-behind u number s answer.Waits = waiting_behind u.ops u number s
-behind u number s a = gone_on (goes_on u.ops number s a) u (listed_behind u number s a)
+abbrev pub position_after : User → ℕ → Saved → Answer → Position
+position_after u number s answer.Waits = waiting_after u.ops u number s
+position_after u number s a = gone_on (goes_on u.ops number s a) u (listed_after u number s a)
 
 -- whether the entry of a user with this number is Send
 abbrev pub is_send_at : User → ℕ → Bool
@@ -154,29 +154,29 @@ comes_of u number a = true
 
 -- the position of a user whom something reached: where its entry waited, its program continues by
 -- it
-abbrev pub told : User → Answer → Position → Position
-told u a p = elim p.waited [
+abbrev pub answered : User → Answer → Position → Position
+answered u a p = elim p.waited [
   | None ↦ p
   | Some number ↦ cond (comes_of u number a) (gone_on (goes_on u.ops number p.saved a) u p) p
 ]
 
 -- the position of a user after something that reached a thread
-abbrev pub told_if : User → Reached → Position → Position
-told_if u r p = cond (same u.thread r.thread) (told u r.answer p) p
+abbrev pub answered_if : User → Reached → Position → Position
+answered_if u r p = cond (same u.thread r.thread) (answered u r.answer p) p
 
 -- the position of a user after all that reached threads
-abbrev pub told_all : List Reached → User → Position → Position
-told_all [] u p = p
-told_all (r ∷ rs) u p = told_all rs u (told_if u r p)
+abbrev pub answered_all : List Reached → User → Position → Position
+answered_all [] u p = p
+answered_all (r ∷ rs) u p = answered_all rs u (answered_if u r p)
 
 -- that of the user of the number i, but for the one that entered
-abbrev pub place_told : List Reached → ℕ → List User → ℕ → Position → Position
-place_told rs own users i p = cond (i == own) p (elim (slice_get users i) [ None ↦ p | Some u ↦ told_all rs u p ])
+abbrev pub place_answered : List Reached → ℕ → List User → ℕ → Position → Position
+place_answered rs own users i p = cond (i == own) p (elim (slice_get users i) [ None ↦ p | Some u ↦ answered_all rs u p ])
 
 -- those of all users from the number i on
-abbrev pub all_told : List Reached → ℕ → ℕ → List User → List Position → List Position
-all_told rs own i users [] = []
-all_told rs own i users (p ∷ ps) = place_told rs own users i p ∷ all_told rs own (i + 1) users ps
+abbrev pub all_answered : List Reached → ℕ → ℕ → List User → List Position → List Position
+all_answered rs own i users [] = []
+all_answered rs own i users (p ∷ ps) = place_answered rs own users i p ∷ all_answered rs own (i + 1) users ps
 
 -- the words that the user of a number keeps
 abbrev pub saved_at : Going → ℕ → Saved
@@ -189,8 +189,8 @@ given g u k e = filled u.fills k.number (saved_at g k.user) e
 -- the positions after an entry of a user with this outcome
 abbrev pub places_after : List User → Outcome → User → Pick → Going → List Position
 places_after users o u k g =
-    all_told (reached_from None o.records) k.user 0 users
-    (put_at k.user (behind u k.number (saved_at g k.user) o.answer) g.places)
+    all_answered (reached_from None o.records) k.user 0 users
+    (put_at k.user (position_after u k.number (saved_at g k.user) o.answer) g.places)
 
 -- how far a run is after an entry of a user on a core, where the cores had these picks
 abbrev pub entered : List User → List (List Pick) → User → Step → Pick → Going → Going

@@ -3,14 +3,14 @@
 //! orders.
 #![tactic(auto)]
 
+mod answer_ref;
 mod laws;
 mod position;
 mod program;
 mod reached;
-mod told;
 
+pub use answer_ref::{AnswerRef, Form};
 pub use laws::{one_pick, one_turn, run_legal, run_long};
 pub use position::{Pick, Position, Schedule};
 pub use program::{Fill, Op, Saved, Settled, Slot, Source, Test, filled, goes_on, starts};
 pub use reached::Reached;
-pub use told::{Form, Told};

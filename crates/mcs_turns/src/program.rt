@@ -3,7 +3,7 @@ ghost use Rattle.std.specs.Prelude.{◌≡◌, ◌<◌, ◌+◌, ◌^◌, length
 ghost use Rattle.mcs_types.specs.Limits.{label_bits};
 ghost use Rattle.mcs_turns.specs.Programs.{filled, filled_label, filled_message, filled_words, gives, goes_on, holds, nothing_saved, op_given, op_next, op_saved, read, saved_in, settled, starts, with_saved, label_by, words_by};
 
-use crate::told::Told;
+use crate::answer_ref::AnswerRef;
 use mcs_types::{Entry, LABEL_BITS, Message, OutOfMemory};
 use std::alloc::Global;
 
@@ -119,34 +119,34 @@ impl Saved {
 }
 
 /// Returns the value of a source.
-fn read(told: &Told<'_>, saved: Saved, source: Source) -> u64
-    ensures { result ≡ read told.now saved source }
+fn read(last: &AnswerRef<'_>, saved: Saved, source: Source) -> u64
+    ensures { result ≡ read last.now saved source }
 {
     match source {
         Source::Number(number) => number,
-        Source::Badge => told.badge(),
-        Source::Label => told.label(),
-        Source::Word(number) => told.word(number),
+        Source::Badge => last.badge(),
+        Source::Label => last.label(),
+        Source::Word(number) => last.word(number),
         Source::Saved(slot) => saved.at(slot),
     }
 }
 
 /// Returns whether a test holds.
-fn holds(told: &Told<'_>, saved: Saved, test: Test) -> bool
-    ensures { result ≡ holds told.now saved test }
+fn holds(last: &AnswerRef<'_>, saved: Saved, test: Test) -> bool
+    ensures { result ≡ holds last.now saved test }
 {
     match test {
-        Test::Got => told.is_got(),
-        Test::Heard => told.is_heard(),
-        Test::Empty => told.is_empty(),
-        Test::Done => told.is_done(),
-        Test::Refused => 0 < told.refused_by(),
-        Test::RefusedBy(number) => told.refused_by() == number,
-        Test::Is(one, other) => read(told, saved, one) == read(told, saved, other),
-        Test::IsLess(one, other) => read(told, saved, one) < read(told, saved, other),
+        Test::Got => last.is_got(),
+        Test::Heard => last.is_heard(),
+        Test::Empty => last.is_empty(),
+        Test::Done => last.is_done(),
+        Test::Refused => 0 < last.refused_by(),
+        Test::RefusedBy(number) => last.refused_by() == number,
+        Test::Is(one, other) => read(last, saved, one) == read(last, saved, other),
+        Test::IsLess(one, other) => read(last, saved, one) < read(last, saved, other),
         Test::Has(one, other) => {
-            let bits = read(told, saved, other);
-            read(told, saved, one) & bits == bits
+            let bits = read(last, saved, other);
+            read(last, saved, one) & bits == bits
         }
     }
 }
@@ -173,23 +173,23 @@ impl Op {
     }
 
     /// Returns the kept words after a line.
-    fn saved(self, told: &Told<'_>, saved: Saved) -> Saved
-        ensures { result ≡ op_saved told.now saved self }
+    fn saved(self, last: &AnswerRef<'_>, saved: Saved) -> Saved
+        ensures { result ≡ op_saved last.now saved self }
     {
         match self {
-            Op::Keep(slot, from) => saved.with(slot, read(told, saved, from)),
+            Op::Keep(slot, from) => saved.with(slot, read(last, saved, from)),
             Op::Add(slot, number) => saved.with(slot, saved.at(slot).wrapping_add(number)),
             _ => saved,
         }
     }
 
     /// Returns where a program continues after the line at an index.
-    fn next(self, told: &Told<'_>, saved: Saved, at: usize) -> usize
+    fn next(self, last: &AnswerRef<'_>, saved: Saved, at: usize) -> usize
         requires { at + 1 < 2 ^ 64 }
-        ensures { result ≡ op_next told.now saved at self }
+        ensures { result ≡ op_next last.now saved at self }
     {
         match self {
-            Op::Unless(test, to) => { if holds(told, saved, test) { at + 1 } else { to } }
+            Op::Unless(test, to) => { if holds(last, saved, test) { at + 1 } else { to } }
             Op::Jump(to) => to,
             _ => at + 1,
         }
@@ -204,8 +204,8 @@ fn op_at(ops: &[Op], place: usize) -> Option<Op>
 }
 
 /// Returns the entry that a program gives next, from an index on; none if it stops.
-fn settle(ops: &[Op], told: &Told<'_>, saved: Saved, at: usize) -> Settled
-    ensures { result ≡ settled (length ops.now) ops.now told.now saved at }
+fn settle(ops: &[Op], last: &AnswerRef<'_>, saved: Saved, at: usize) -> Settled
+    ensures { result ≡ settled (length ops.now) ops.now last.now saved at }
 {
     let mut kept = saved;
     let mut place = at;
@@ -222,8 +222,8 @@ fn settle(ops: &[Op], told: &Told<'_>, saved: Saved, at: usize) -> Settled
                 saved: kept,
             };
         }
-        let next = op.next(told, kept, place);
-        kept = op.saved(told, kept);
+        let next = op.next(last, kept, place);
+        kept = op.saved(last, kept);
         place = next;
     }
     Settled {
@@ -241,11 +241,11 @@ fn place_of(ops: &[Op], number: usize) -> Option<usize>
 
 /// Returns the entry that a program gives next after this result of an entry; None if it has no
 /// such entry.
-pub fn goes_on(ops: &[Op], number: usize, saved: Saved, told: &Told<'_>) -> Option<Settled>
-    ensures { result ≡ goes_on ops.now number saved told.now }
+pub fn goes_on(ops: &[Op], number: usize, saved: Saved, last: &AnswerRef<'_>) -> Option<Settled>
+    ensures { result ≡ goes_on ops.now number saved last.now }
 {
     match place_of(ops, number) {
-        Some(place) => Some(settle(ops, told, saved, place + 1)),
+        Some(place) => Some(settle(ops, last, saved, place + 1)),
         None => None,
     }
 }
@@ -257,7 +257,7 @@ pub fn starts(ops: &[Op]) -> Option<Settled>
     if ops.is_empty() {
         return None;
     }
-    Some(settle(ops, &Told::nothing(), Saved::none(), 0))
+    Some(settle(ops, &AnswerRef::nothing(), Saved::none(), 0))
 }
 
 /// Returns a label, or the kept word that fills it.

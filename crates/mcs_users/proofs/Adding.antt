@@ -15,9 +15,9 @@ use Rattle.mcs_users.specs.Users.{begun_with, with_more, with_entry}
 abbrev place : List User → ObjId → ℕ
 place us t = position_or_len (λ (u : User). same u.thread t || nat_lt t.serial u.thread.serial) us
 
-behind-all : (us : List User) (t : ObjId) (e : Entry) → length us ≤ place us t → take (length us) us ++ begun_with t e ∷ drop (length us) us ≡ with_entry us t e
-behind-all [] t e le = refl
-behind-all (x ∷ xs) t e le = go (same x.thread t) (nat_lt t.serial x.thread.serial) (behind-all xs t e) le
+after-all : (us : List User) (t : ObjId) (e : Entry) → length us ≤ place us t → take (length us) us ++ begun_with t e ∷ drop (length us) us ≡ with_entry us t e
+after-all [] t e le = refl
+after-all (x ∷ xs) t e le = go (same x.thread t) (nat_lt t.serial x.thread.serial) (after-all xs t e) le
   where
     go : (a b : Bool) → (length xs ≤ place xs t → take (length xs) xs ++ begun_with t e ∷ drop (length xs) xs ≡ with_entry xs t e)
         → suc (length xs) ≤ cond (not (a || b)) (1 + place xs t) 0
@@ -68,6 +68,6 @@ pub added-before : (us : List User) (t : ObjId) (e : Entry) (i : ℕ) (u : User)
     → slice_get us i ≡ Some u → same u.thread t ≡ false → take i us ++ begun_with t e ∷ drop i us ≡ with_entry us t e
 added-before us t e i u found at is = subst (λ n. take n us ++ begun_with t e ∷ drop n us ≡ with_entry us t e) (found-at us t i found).0 (before us t e u (subst (λ n. slice_get us n ≡ Some u) (sym (found-at us t i found).0) at) is)
 
-pub added-behind : (us : List User) (t : ObjId) (e : Entry) (n : ℕ) → n ≡ length us → position (λ (v : User). same v.thread t || nat_lt t.serial v.thread.serial) us ≡ None
+pub added-after : (us : List User) (t : ObjId) (e : Entry) (n : ℕ) → n ≡ length us → position (λ (v : User). same v.thread t || nat_lt t.serial v.thread.serial) us ≡ None
     → take n us ++ begun_with t e ∷ drop n us ≡ with_entry us t e
-added-behind us t e n long none = subst (λ m. take m us ++ begun_with t e ∷ drop m us ≡ with_entry us t e) (sym long) (behind-all us t e (grind (arith, nat_tests, none)))
+added-after us t e n long none = subst (λ m. take m us ++ begun_with t e ∷ drop m us ≡ with_entry us t e) (sym long) (after-all us t e (grind (arith, nat_tests, none)))

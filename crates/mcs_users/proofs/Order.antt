@@ -14,7 +14,7 @@ use Rattle.mcs_types.proofs.Ids.{same-equal, same-self}
 use Rattle.mcs_turns.specs.declared.program.Fill.{Fill}
 use Rattle.mcs_turns.specs.declared.program.Op.{Op}
 use Rattle.mcs_turns.specs.Turns.{User, AreApart}
-use Rattle.mcs_users.specs.Users.{again_at, program_at, StandsBehind, AreInOrder, begun_with, with_more, with_entry}
+use Rattle.mcs_users.specs.Users.{again_at, program_at, IsAfter, AreInOrder, begun_with, with_more, with_entry}
 
 -- what holds of all holds with an entry more
 all-with : (P : User → Type 0) (us : List User) (t : ObjId) (e : Entry) → ((u : User) → P u → P (with_more u e)) → P (begun_with t e) → AllByRecursion P us → AllByRecursion P (with_entry us t e)
@@ -51,13 +51,13 @@ order-with (x ∷ xs) t e h = go (order-with xs t e h.1) (same x.thread t) refl 
   where
     go : AreInOrder (with_entry xs t e) → (a : Bool) → same x.thread t ≡ a → (b : Bool) → nat_lt t.serial x.thread.serial ≡ b
         → AreInOrder (if a then with_more x e ∷ xs else (if b then begun_with t e ∷ x ∷ xs else x ∷ with_entry xs t e))
-    go rest true is b low = (all-weaker (StandsBehind x) (StandsBehind (with_more x e)) (λ u p. record { other = p.other; serial = p.serial }) xs h.0, h.1)
+    go rest true is b low = (all-weaker (IsAfter x) (IsAfter (with_more x e)) (λ u p. record { other = p.other; serial = p.serial }) xs h.0, h.1)
     go rest false is true low =
         let less : t.serial < x.thread.serial = ltb-true t.serial x.thread.serial low in
-        let first : StandsBehind (begun_with t e) x = record { other = other-serial t x.thread less; serial = omega (arith, less) } in (
+        let first : IsAfter (begun_with t e) x = record { other = other-serial t x.thread less; serial = omega (arith, less) } in (
           (
             first,
-            all-weaker (StandsBehind x) (StandsBehind (begun_with t e)) (λ u p.
+            all-weaker (IsAfter x) (IsAfter (begun_with t e)) (λ u p.
                 let more = p.serial in
                 let below : t.serial < u.thread.serial = omega (arith, less, more) in
                 record { other = other-serial t u.thread below; serial = omega (arith, below) }) xs h.0,
@@ -65,8 +65,8 @@ order-with (x ∷ xs) t e h = go (order-with xs t e h.1) (same x.thread t) refl 
           h,
         )
     go rest false is false low =
-        let behind : x.thread.serial ≤ t.serial = grind (arith, nat_tests, low) in
-        (all-with (StandsBehind x) xs t e (λ u p. record { other = p.other; serial = p.serial }) (record { other = is; serial = behind }) h.0, rest)
+        let position_after : x.thread.serial ≤ t.serial = grind (arith, nat_tests, low) in
+        (all-with (IsAfter x) xs t e (λ u p. record { other = p.other; serial = p.serial }) (record { other = is; serial = position_after }) h.0, rest)
 
 all-at : (P : User → Type 0) (us : List User) (i : ℕ) (u : User) → AllByRecursion P us → slice_get us i ≡ Some u → P u
 all-at P [] zero u all at = absurd cc
@@ -80,24 +80,24 @@ apart [] h (suc i) j u v a b is = absurd cc
 apart (x ∷ xs) h zero zero u v a b is = refl
 apart (x ∷ xs) h zero (suc j) u v a b is =
     let first : x ≡ u = search rules in
-    let other : same x.thread v.thread ≡ false = (all-at (StandsBehind x) xs j v h.0 b).other in
+    let other : same x.thread v.thread ≡ false = (all-at (IsAfter x) xs j v h.0 b).other in
     let no : true ≡ false = sym is ∙ subst (λ (w : User). same w.thread v.thread ≡ false) first other in
     absurd cc
 apart (x ∷ xs) h (suc i) zero u v a b is =
     let first : x ≡ v = search rules in
-    let other : same x.thread u.thread ≡ false = (all-at (StandsBehind x) xs i u h.0 a).other in
+    let other : same x.thread u.thread ≡ false = (all-at (IsAfter x) xs i u h.0 a).other in
     let no : true ≡ false = sym is ∙ same-either u.thread v.thread (subst (λ (w : User). same w.thread u.thread ≡ false) first other) in
     absurd cc
 apart (x ∷ xs) h (suc i) (suc j) u v a b is = ap (λ n. suc n) (apart xs h.1 i j u v a b is)
 
 -- what follows of the order of users follows of one with the same thread
-same-behind : (x u w : User) → u.thread ≡ w.thread → StandsBehind x u → StandsBehind x w
-same-behind x u w e p = record {
+same-after : (x u w : User) → u.thread ≡ w.thread → IsAfter x u → IsAfter x w
+same-after x u w e p = record {
   other = subst (λ (t : ObjId). same x.thread t ≡ false) e p.other;
   serial = subst (λ (t : ObjId). x.thread.serial ≤ t.serial) e p.serial;
 }
 
-same-before : (u w v : User) → u.thread ≡ w.thread → StandsBehind u v → StandsBehind w v
+same-before : (u w v : User) → u.thread ≡ w.thread → IsAfter u v → IsAfter w v
 same-before u w v e p = record {
   other = subst (λ (t : ObjId). same t v.thread ≡ false) e p.other;
   serial = subst (λ (t : ObjId). t.serial ≤ v.thread.serial) e p.serial;
@@ -114,8 +114,8 @@ order-changed [] i u w e at h = tt
 order-changed (x ∷ xs) zero u w e at h =
     let first : x ≡ u = search rules in
     let thread : x.thread ≡ w.thread = ap (λ (y : User). y.thread) first ∙ e in
-    (all-weaker (StandsBehind x) (StandsBehind w) (λ v p. same-before x w v thread p) xs h.0, h.1)
-order-changed (x ∷ xs) (suc i) u w e at h = (all-changed (StandsBehind x) xs i u w (λ p. same-behind x u w e p) at h.0, order-changed xs i u w e at h.1)
+    (all-weaker (IsAfter x) (IsAfter w) (λ v p. same-before x w v thread p) xs h.0, h.1)
+order-changed (x ∷ xs) (suc i) u w e at h = (all-changed (IsAfter x) xs i u w (λ p. same-after x u w e p) at h.0, order-changed xs i u w e at h.1)
 
 -- the user in a place that was found
 pub found-user : (p : User → Bool) (us : List User) (i : ℕ) → position p us ≡ Some i → (u : User) × (slice_get us i ≡ Some u)
@@ -153,9 +153,9 @@ order-programmed p us i os fs h found = by (found-user p us i found).0 (found-us
     by u at = subst (λ o. AreInOrder (elim o [ None ↦ us | Some v ↦ set us i (record v { ops = os; fills = fs }) ])) (sym at) (order-changed us i u (record u { ops = os; fills = fs }) refl at h)
 
 -- users with the same threads are in order too
-all-threads : (f : User → User) → ((u : User) → (f u).thread ≡ u.thread) → (x : User) (us : List User) → AllByRecursion (StandsBehind x) us → AllByRecursion (StandsBehind (f x)) (map f us)
+all-threads : (f : User → User) → ((u : User) → (f u).thread ≡ u.thread) → (x : User) (us : List User) → AllByRecursion (IsAfter x) us → AllByRecursion (IsAfter (f x)) (map f us)
 all-threads f same x [] all = tt
-all-threads f same x (u ∷ us) all = (same-before x (f x) (f u) (sym (same x)) (same-behind x u (f u) (sym (same u)) all.0), all-threads f same x us all.1)
+all-threads f same x (u ∷ us) all = (same-before x (f x) (f u) (sym (same x)) (same-after x u (f u) (sym (same u)) all.0), all-threads f same x us all.1)
 
 pub order-threads : (f : User → User) → ((u : User) → (f u).thread ≡ u.thread) → (us : List User) → AreInOrder us → AreInOrder (map f us)
 order-threads f same [] h = h

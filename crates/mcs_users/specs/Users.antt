@@ -83,14 +83,14 @@ abbrev pub is_place_for : ObjId → User → Bool
 is_place_for t u = same u.thread t || nat_lt t.serial u.thread.serial
 
 -- v follows u: its thread is another one, of no lower serial
-pub record StandsBehind (u v : User) : Type 0 where
+pub record IsAfter (u v : User) : Type 0 where
   pub other : same u.thread v.thread ≡ false
   pub serial : u.thread.serial ≤ v.thread.serial
 
 -- each user follows all before it
 abbrev pub AreInOrder : List User → Type 0
 AreInOrder [] = Unit {0}
-AreInOrder (u ∷ us) = AllByRecursion (StandsBehind u) us × AreInOrder us
+AreInOrder (u ∷ us) = AllByRecursion (IsAfter u) us × AreInOrder us
 
 -- whether some entry of a user changes slots
 abbrev pub user_changes_slots : User → Bool

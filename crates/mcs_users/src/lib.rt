@@ -9,5 +9,5 @@ mod users;
 
 pub use lists::{UserList, push};
 pub use picks::Picks;
-pub use places::{first_place, is_send_at, place_behind, place_told};
+pub use places::{first_place, is_send_at, place_after, place_answered};
 pub use users::Users;

@@ -2,10 +2,10 @@
 //! last entry.
 ghost use Rattle.std.specs.Prelude.{◌≡◌, ◌<◌, length, slice_get};
 ghost use Rattle.mcs_turns.specs.Programs.{goes_on};
-ghost use Rattle.mcs_turns.specs.Turns.{behind, comes_of, gone_on, is_send_at, listed_behind, started, told, waiting_behind};
+ghost use Rattle.mcs_turns.specs.Turns.{position_after, comes_of, gone_on, is_send_at, listed_after, started, answered, waiting_after};
 
 use crate::lists::UserList;
-use mcs_turns::{Position, Saved, Settled, Told, goes_on, starts};
+use mcs_turns::{AnswerRef, Position, Saved, Settled, goes_on, starts};
 use mcs_types::Answer;
 
 /// Returns the position at which a program continues, or that of the list if there is no program.
@@ -34,9 +34,9 @@ pub fn first_place(user: &UserList) -> Position
 }
 
 /// Returns the position in a list after an entry that was accepted with this answer.
-fn listed_behind(user: &UserList, number: usize, saved: Saved, answer: &Answer) -> Position
+fn listed_after(user: &UserList, number: usize, saved: Saved, answer: &Answer) -> Position
     requires { number < length user.now.entries }
-    ensures { result ≡ listed_behind user.now number saved answer.now }
+    ensures { result ≡ listed_after user.now number saved answer.now }
 {
     let count = user.entries.len();
     let mut place = Position::past(number, answer);
@@ -50,20 +50,20 @@ fn listed_behind(user: &UserList, number: usize, saved: Saved, answer: &Answer) 
 }
 
 /// Returns the position of a program after this result of an entry.
-fn next_of(user: &UserList, number: usize, told: &Told<'_>, place: Position) -> Position
-    ensures { result ≡ gone_on (goes_on user.now.ops number place.saved told.now) user.now place }
+fn next_of(user: &UserList, number: usize, answer: &AnswerRef<'_>, place: Position) -> Position
+    ensures { result ≡ gone_on (goes_on user.now.ops number place.saved answer.now) user.now place }
 {
-    let settled = goes_on(user.ops.as_slice(), number, place.saved, told);
+    let settled = goes_on(user.ops.as_slice(), number, place.saved, answer);
     gone_on(settled, user, place)
 }
 
 /// Returns the position of a user whose entry waits; which entry its program gives next is not
 /// known yet.
-fn waiting_behind(user: &UserList, number: usize, saved: Saved) -> Position
+fn waiting_after(user: &UserList, number: usize, saved: Saved) -> Position
     requires { number < length user.now.entries }
-    ensures { result ≡ waiting_behind user.now.ops user.now number saved }
+    ensures { result ≡ waiting_after user.now.ops user.now number saved }
 {
-    let place = listed_behind(user, number, saved, &Answer::Waits);
+    let place = listed_after(user, number, saved, &Answer::Waits);
     if user.ops.is_empty() {
         return place;
     }
@@ -76,15 +76,15 @@ fn waiting_behind(user: &UserList, number: usize, saved: Saved) -> Position
 
 /// Returns the position of a user after an entry that was accepted with this answer. A program
 /// continues with it at once, or, if the entry waits, with what later reaches the thread.
-pub fn place_behind(user: &UserList, number: usize, saved: Saved, answer: &Answer) -> Position
+pub fn place_after(user: &UserList, number: usize, saved: Saved, answer: &Answer) -> Position
     requires { number < length user.now.entries }
-    ensures { result ≡ behind user.now number saved answer.now }
+    ensures { result ≡ position_after user.now number saved answer.now }
 {
     match answer {
-        Answer::Waits => waiting_behind(user, number, saved),
+        Answer::Waits => waiting_after(user, number, saved),
         _ => {
-            let place = listed_behind(user, number, saved, answer);
-            next_of(user, number, &Told::of(answer), place)
+            let place = listed_after(user, number, saved, answer);
+            next_of(user, number, &AnswerRef::of(answer), place)
         }
     }
 }
@@ -102,10 +102,10 @@ pub fn is_send_at(user: &UserList, number: usize) -> bool
 /// Returns whether this is the answer of a waiting entry: that its thread runs again answers a Send
 /// alone.
 #[tactic(auto, using(crate::proofs::Coming::comes_done, crate::proofs::Coming::comes_other))]
-fn comes_of(user: &UserList, number: usize, told: &Told<'_>) -> bool
-    ensures { result ≡ comes_of user.now number told.now }
+fn comes_of(user: &UserList, number: usize, answer: &AnswerRef<'_>) -> bool
+    ensures { result ≡ comes_of user.now number answer.now }
 {
-    if told.is_done() {
+    if answer.is_done() {
         is_send_at(user, number)
     } else {
         true
@@ -114,8 +114,8 @@ fn comes_of(user: &UserList, number: usize, told: &Told<'_>) -> bool
 
 /// Returns the position of a user after this reached its thread: a waiting program continues with
 /// it.
-pub fn place_told(user: &UserList, answer: &Told<'_>, place: Position) -> Position
-    ensures { result ≡ told user.now answer.now place }
+pub fn place_answered(user: &UserList, answer: &AnswerRef<'_>, place: Position) -> Position
+    ensures { result ≡ answered user.now answer.now place }
 {
     let Some(number) = place.waited else {
         return place;

@@ -3,6 +3,7 @@ use crate::compiling::{self, Made};
 use crate::completing::{self, Shell};
 use crate::drawing::{self, Drawn};
 use crate::exploring::{self, Sought};
+use crate::graphing::{self, Graphed};
 use crate::showing::{self, Forms};
 use crate::starting::{self, Begun};
 use crate::walking::{self, Chance};
@@ -33,6 +34,8 @@ pub enum Command<'a> {
     Draw(Drawn<'a>),
     /// Explores all orders of the users.
     Explore(Sought<'a>),
+    /// Writes the graph of all orders of the users.
+    Graph(Graphed),
     /// Draws orders of the users at random.
     Walk(Chance),
     /// Compiles a plan to a script.
@@ -101,6 +104,7 @@ Examples:
   mcslab json first.plan
   mcslab draw first.plan > first.svg
   mcslab explore --scripts found first-users.plan
+  mcslab graph first-users.plan > first.aut
   mcslab walk --seed 7 first-users.plan > one-order.mcs
   mcslab compile first.plan > first.mcs
   mcslab names first.mcs < trace
@@ -291,6 +295,7 @@ fn readers<'a>(alloc: Global) -> Result<Words<'a>, Error> {
     let words = either(alloc, words, book(alloc));
     let words = either(alloc, words, drawing::command(alloc, file(alloc)));
     let words = either(alloc, words, exploring::command(alloc, file(alloc)));
+    let words = either(alloc, words, graphing::command(alloc, file(alloc)));
     either(alloc, words, walking::command(alloc, file(alloc)))
 }
 
@@ -345,6 +350,9 @@ fn requested_of_names<'a>(matches: &ArgMatches<'a>) -> Option<Request<'a>> {
 fn requested_of_users<'a>(matches: &ArgMatches<'a>) -> Option<Request<'a>> {
     if let Some(found) = matches.subcommand_matches("explore") {
         return Some(Request::of_either(Command::Explore(exploring::asked(found)), found));
+    }
+    if let Some(found) = matches.subcommand_matches("graph") {
+        return Some(Request::of_either(Command::Graph(graphing::asked(found)), found));
     }
     let found = matches.subcommand_matches("walk")?;
     Some(Request::of_either(Command::Walk(walking::asked(found)), found))

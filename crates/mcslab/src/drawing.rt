@@ -1,10 +1,10 @@
 //! The picture of a script, as the command line asks for it.
 use crate::command_line::{line, with};
 use clap::{Arg, ArgMatches, Command as Words, Error};
-use mcs_lab_check::{Judge, LabFault, Last, Names, Outcome, TakesLines, Told, take_lines};
+use mcs_lab_check::{LabFault, Outcome};
 use mcs_lab_render::{Asked, Format, NoThreads, Window, draw_script, threads_named};
 use mcs_plan_source::Shown;
-use mcs_plan_words::number_in;
+use mcs_plan_words::{RangeFault, Steps};
 use mcs_sim::Source;
 use std::alloc::Global;
 use std::io::{Read, Write};
@@ -109,94 +109,20 @@ pub fn asked<'a>(found: &ArgMatches<'a>) -> Option<Drawn<'a>> {
     })
 }
 
-/// A script that was read whole: its text, its names, and the line of each step in its book.
-#[derive(Drop)]
-struct Steps {
-    judge: Judge,
-    names: Names,
-    text: Vec<u8>,
-    lines: Vec<u64>,
-}
-
-impl TakesLines for Steps {
-    fn take_line(&mut self, alloc: Global, line: &[u8]) -> Result<(), LabFault> {
-        self.text.extend_from_slice(line)?;
-        match (self.judge.take(alloc, line)?, self.judge.last()) {
-            (Told::Step, Last::LetIn { .. }) => {
-                self.lines.push(self.judge.line())?;
-                Ok(())
-            }
-            (Told::Nothing, _) => self.names.hear(alloc, self.judge.line(), line),
-            _ => Ok(()),
-        }
-    }
-
-    fn taken(&self) -> u64 {
-        self.judge.line()
-    }
-}
-
-impl Steps {
-    /// Reads a script. Its faults are those of its lines, of a read, of a full book and of a failed
-    /// allocation.
-    fn read<R: Read>(alloc: Global, from: &mut Source<R>) -> Result<Steps, LabFault> {
-        let mut steps = Steps {
-            judge: Judge::new(alloc)?,
-            names: Names::new(alloc),
-            text: Vec::new(alloc),
-            lines: Vec::new(alloc),
-        };
-        take_lines(alloc, from, &mut steps)?;
-        steps.judge.end(alloc)?;
-        Ok(steps)
-    }
-
-    /// Returns the fault of a line beyond the end, if it is.
-    fn missing(&self, line: Option<u64>) -> Option<LabFault> {
-        let line = line?;
-        let count = self.judge.line();
-        if line <= count {
-            return None;
-        }
-        Some(LabFault::NoLine { line, count })
-    }
-
-    /// Returns how many steps of the book are before a line; `numbers` are the numbers of the
-    /// script's lines.
-    fn count_before(&self, numbers: &[u64], line: u64) -> usize {
-        self.lines
-            .iter()
-            .filter(|step| number_in(numbers, **step) < line)
-            .count()
-    }
-
-    /// Returns the lines of the book whose steps are in the lines asked for; None if there are
-    /// none.
-    fn window(&self, numbers: &[u64], drawn: Drawn<'_>) -> Option<Window> {
-        if drawn.from.is_none() && drawn.to.is_none() {
-            return Some(ALL);
-        }
-        let before = match drawn.from {
-            Some(line) => self.count_before(numbers, line),
-            None => 0,
-        };
-        let last = match drawn.to {
-            Some(line) => self.count_before(numbers, line.saturating_add(1)),
-            None => self.lines.len(),
-        };
-        if before >= last {
-            return None;
-        }
-        let first = before.saturating_add(1);
-        Some(Window { first, last })
-    }
-}
-
 /// The window of all lines.
 const ALL: Window = Window {
     first: 1,
     last: usize::MAX,
 };
+
+/// Returns the lines of the book whose steps are in the lines asked for; None if there are none.
+fn window_of(steps: &Steps, numbers: &[u64], drawn: Drawn<'_>) -> Option<Window> {
+    if drawn.from.is_none() && drawn.to.is_none() {
+        return Some(ALL);
+    }
+    let (first, last) = steps.between(numbers, drawn.from, drawn.to)?;
+    Some(Window { first, last })
+}
 
 /// Reports a wrong list of threads, and returns the exit status.
 fn tell_no_threads(rt: &HostRuntime, fault: NoThreads<'_>) -> Result<u8, LabFault> {
@@ -256,10 +182,10 @@ fn draw_part<R: Read, W: Write>(
     {
         return Err(fault);
     }
-    match steps.window(said.numbers, drawn) {
+    match window_of(&steps, said.numbers, drawn) {
         Some(window) => draw_window(rt, &steps, to, drawn, window, said),
         None => {
-            let _ = rt.eprintln("mcslab: no step in these lines took effect");
+            let _ = rt.eprintln(RangeFault::Idle);
             Ok(Outcome::Call.status())
         }
     }

@@ -16,7 +16,7 @@ use std::io::{self, IsTerminal, Read, Write};
 use std::time::Instant;
 
 /// How many states are found by default at most.
-const STATES: u64 = 1_000_000;
+pub const STATES: u64 = 1_000_000;
 
 /// The clock is read, and memory asked for, once in this many states, since both take time.
 const LOOKS: usize = 16;
@@ -80,12 +80,12 @@ pub fn number<'a>(alloc: Global, name: &'a str, help: &'a str) -> Arg<'a> {
 }
 
 /// Returns the option for the most states.
-fn states<'a>(alloc: Global) -> Arg<'a> {
+pub fn states<'a>(alloc: Global) -> Arg<'a> {
     number(alloc, "states", "Stops after N states [default: 1000000]")
 }
 
 /// Returns the option for the depth.
-fn depth<'a>(alloc: Global) -> Arg<'a> {
+pub fn depth<'a>(alloc: Global) -> Arg<'a> {
     number(alloc, "depth", "Does not expand states deeper than N turns")
 }
 
@@ -137,7 +137,7 @@ fn texts<'a>(alloc: Global) -> Arg<'a> {
 }
 
 /// Returns the option for exact keys.
-fn exact<'a>(alloc: Global) -> Arg<'a> {
+pub fn exact<'a>(alloc: Global) -> Arg<'a> {
     Arg::new(alloc, "exact")
         .long("exact")
         .help("Distinguishes states by the numbers of messages and of objects, too")

@@ -1,7 +1,7 @@
 //! The folder for the scripts of a search.
-use crate::path::Path;
 use mcs_explore_report::{MARK, Saves, UserScript, is_script_name};
 use mcs_lab_check::LabFault;
+use mcs_plan_words::Path;
 use std::alloc::Global;
 use std::fs::{self, DirEntry, File};
 use std::io::{self, ErrorKind, Read, Write};

@@ -1,6 +1,6 @@
 //! What a command reads: a file or the standard input, whole or as it comes.
-use crate::path::Path;
 use mcs_lab_check::{LabFault, Outcome};
+use mcs_plan_words::write_unopened;
 use mcs_sim::Source;
 use std::alloc::Global;
 use std::fs::{self, File};
@@ -131,13 +131,11 @@ fn read_plan<R: Read + Drop>(alloc: Global, from: R) -> Result<Vec<u8>, LabFault
 
 /// Reports that a file could not be opened, and returns the exit status.
 pub fn tell_unopened(rt: &HostRuntime, path: &str, error: &io::Error) -> u8 {
-    if error.kind() == ErrorKind::OutOfMemory {
-        let _ = rt.eprintln(LabFault::OutOfMemory);
-        return LabFault::OutOfMemory.status();
+    let _ = write_unopened(&mut rt.stderr(), path, error);
+    match error.kind() {
+        ErrorKind::OutOfMemory => Outcome::OutOfMemory.status(),
+        _ => Outcome::Call.status(),
     }
-    let path = Path(path);
-    let _ = eprintln!(rt; "mcslab: {path}: {error}");
-    Outcome::Call.status()
 }
 
 /// Returns the bytes of a plan; if it could not be read, reports that and returns the exit status.

@@ -6,7 +6,7 @@
 //! file ── input ──> a script, which is read as it comes, or a plan, which is read whole
 //! plan ── planning ──> the command with the script that it becomes, and the report by the plan's
 //!     lines and names (mcs_plan_words)
-//! faults ── telling ──> FILE:LINE: ..
+//! faults ── telling ──> FILE:LINE: .. (mcs_plan_words) on the standard error, and the exit status
 //! ```
 #![tactic(auto)]
 
@@ -16,10 +16,9 @@ mod completing;
 mod drawing;
 mod exploring;
 mod folder;
-mod hints;
+mod graphing;
 mod input;
 mod manual;
-mod path;
 mod planning;
 mod renaming;
 mod showing;
@@ -34,13 +33,15 @@ use completing::write_completions;
 use drawing::{Drawn, Said, draw};
 use exploring::{Sought, explore};
 use folder::make_folder;
+use graphing::graph;
 use input::{Kept, open, tell_unopened};
 use manual::write_manual;
+use mcs_command_line::arguments;
 use mcs_explore_questions::ExploreFault;
 use mcs_lab_check::{LabFault, Outcome, check};
 use mcs_lab_inspect::{explain, show_state, write_json};
-use mcs_sim::{Source, arguments};
-use path::Path;
+use mcs_plan_words::{Path, crossed, line_of};
+use mcs_sim::{SimFault, Source};
 use planning::do_plan;
 use renaming::tell_trace;
 use showing::show_forms;
@@ -48,7 +49,7 @@ use starting::begin;
 use std::alloc::{AllocError, Global};
 use std::io::{self, BufWriter, Read, Write};
 use std::process::ExitCode;
-use telling::{Place, line_of, stranger_of, tell_fault, tell_stranger};
+use telling::tell_script_fault;
 use walking::walk;
 
 /// Returns the exit code for an outcome.
@@ -103,6 +104,7 @@ fn do_request<R: Read + Drop, W: Write + Drop>(
         Command::Json(numbers) => write_json(alloc, source, to, numbers)?,
         Command::Draw(drawn) => return Ok(draw(rt, source, to, drawn, Said::nothing())?),
         Command::Explore(sought) => return explore(rt, source, to, sought),
+        Command::Graph(asked) => return graph(alloc, source, to, asked),
         Command::Walk(chance) => return walk(alloc, source, to, chance),
         // these read no script of steps
         Command::Compile(_) | Command::Names | Command::Init(_) => true,
@@ -119,16 +121,8 @@ fn tell<R>(
     fault: &ExploreFault,
     kept: &Kept<R>,
 ) -> ExitCode {
-    let file = request.file;
-    let line = line_of(fault);
-    let text = line.and_then(|line| kept.line(line));
-    if let Some(text) = text
-        && let ExploreFault::Lab(LabFault::Script { why, .. }) = fault
-        && let Some(stranger) = stranger_of(rt.alloc(), request.command, *why, text)
-    {
-        return tell_stranger(rt, Place { file, line }, stranger);
-    }
-    tell_fault(rt, Place { file, line }, fault, text)
+    let text = line_of(fault).and_then(|line| kept.line(line));
+    tell_script_fault(rt, request.file, request.command, fault, text)
 }
 
 /// Performs a request on a script, and returns the exit status.
@@ -154,12 +148,12 @@ fn do_file(rt: &HostRuntime, request: &Request<'_>) -> ExitCode {
 /// Returns whether a picture would show no line, since its first is after its last; if so, reports
 /// that on standard error.
 fn shows_no_line(rt: &HostRuntime, drawn: Drawn<'_>) -> bool {
-    match (drawn.from, drawn.to) {
-        (Some(from), Some(to)) if from > to => {
-            let _ = eprintln!(rt; "mcslab: --from {from} is behind --to {to}");
+    match crossed(drawn.from, drawn.to) {
+        Some(fault) => {
+            let _ = rt.eprintln(fault);
             true
         }
-        _ => false,
+        None => false,
     }
 }
 
@@ -198,6 +192,7 @@ fn carry_out(rt: &HostRuntime, request: &Request<'_>) -> ExitCode {
             }
         }
         Command::Explore(Sought { scripts: None, .. })
+        | Command::Graph(_)
         | Command::Walk(_)
         | Command::Check
         | Command::Why
@@ -215,14 +210,23 @@ fn texts<'a>(alloc: Global, words: &'a [String]) -> Result<Vec<&'a str>, AllocEr
     words.iter().map(|word| word.as_str()).collect(alloc)
 }
 
+/// Reports that memory was refused, and returns the exit status.
+fn tell_no_memory(rt: &HostRuntime) -> ExitCode {
+    let _ = rt.eprintln(LabFault::OutOfMemory);
+    ended(Outcome::OutOfMemory)
+}
+
 fn main(rt: HostRuntime) -> ExitCode {
-    let Ok(words) = arguments(&rt) else {
-        let _ = rt.eprintln("mcslab: an argument is not UTF-8");
-        return ended(Outcome::Call);
+    let words = match arguments(&rt) {
+        Ok(words) => words,
+        Err(SimFault::OutOfMemory) => return tell_no_memory(&rt),
+        Err(_) => {
+            let _ = rt.eprintln("mcslab: an argument is not UTF-8");
+            return ended(Outcome::Call);
+        }
     };
     let Ok(texts) = texts(rt.alloc(), &words) else {
-        let _ = rt.eprintln(LabFault::OutOfMemory);
-        return ended(Outcome::OutOfMemory);
+        return tell_no_memory(&rt);
     };
     match requested(rt.alloc(), &texts) {
         Ok(request) => carry_out(&rt, &request),

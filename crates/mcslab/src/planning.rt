@@ -3,22 +3,23 @@
 use crate::command_line::{Command, Request};
 use crate::drawing::{Drawn, Said, draw};
 use crate::exploring::{Sought, explore};
+use crate::graphing::graph;
 use crate::input::plan_bytes;
 use crate::status_if;
-use crate::telling::{Place, line_of, reads_users, tell_fault, tell_plan_fault, tell_stranger};
+use crate::telling::{reads_users, tell_fault, tell_plan_fault, tell_stranger};
 use crate::walking::walk;
 use mcs_explore_questions::ExploreFault;
 use mcs_lab_check::{LabFault, Outcome, check};
 use mcs_lab_inspect::{Numbers, Wanted, explain, show_state, write_json};
 use mcs_plan_validate::{CompileFault, Numbered};
-use mcs_plan_words::{Form, Planned, bail_line, number_in};
+use mcs_plan_words::{Form, Place, Planned, RangeFault, bail_line, beyond, line_of, number_in};
 use mcs_sim::Source;
 use std::alloc::AllocError;
 use std::io::{self, BufWriter, Write};
 use std::process::ExitCode;
 
-/// Returns the first line beyond the end of a plan that a command names.
-fn missing(plan: &Planned<'_>, command: Command<'_>) -> Option<u64> {
+/// Returns the fault of the first line beyond the end of a plan that a command names.
+fn missing(plan: &Planned<'_>, command: Command<'_>) -> Option<RangeFault> {
     let (one, other) = match command {
         Command::State(wanted) => (wanted.at, None),
         Command::Draw(drawn) => (drawn.from, drawn.to),
@@ -26,6 +27,7 @@ fn missing(plan: &Planned<'_>, command: Command<'_>) -> Option<u64> {
         | Command::Why
         | Command::Json(_)
         | Command::Explore(_)
+        | Command::Graph(_)
         | Command::Walk(_)
         | Command::Compile(_)
         | Command::Names
@@ -34,9 +36,7 @@ fn missing(plan: &Planned<'_>, command: Command<'_>) -> Option<u64> {
         | Command::Manual
         | Command::Completions(_) => (None, None),
     };
-    let count = plan.count();
-    one.filter(|line| *line > count)
-        .or(other.filter(|line| *line > count))
+    beyond(one, other, plan.count())
 }
 
 /// A command that reads a plan, and the script of it as the command reads it.
@@ -146,6 +146,9 @@ impl<'a> Asking<'a> {
             Command::State(wanted) => self.show_state(to, wanted)?,
             Command::Draw(drawn) => return Ok(self.draw(to, drawn)?),
             Command::Explore(sought) => return self.explore(to, sought),
+            Command::Graph(asked) => {
+                return graph(self.rt.alloc(), &mut self.source(), to, asked);
+            }
             Command::Walk(chance) => {
                 return walk(self.rt.alloc(), &mut self.source(), to, chance);
             }
@@ -204,7 +207,7 @@ fn do_script(
         Err(fault) => {
             let file = request.file;
             let line = line_of(&fault).map(|line| number_in(&script.numbers, line));
-            tell_fault(rt, Place { file, line }, &fault, None)
+            tell_fault(rt, Place { file, line }, &fault)
         }
     }
 }
@@ -217,9 +220,8 @@ fn do_planned(rt: &HostRuntime, request: &Request<'_>, plan: &Planned<'_>) -> Ex
         let line = plan.first();
         return tell_stranger(rt, Place { file, line }, stranger);
     }
-    if let Some(line) = missing(plan, command) {
-        let count = plan.count();
-        let _ = eprintln!(rt; "mcslab: there is no line {line} in the plan, which has {count}");
+    if let Some(fault) = missing(plan, command) {
+        let _ = rt.eprintln(fault);
         return ExitCode::from(Outcome::Call.status());
     }
     if !reads_users(command) {

@@ -1,11 +1,12 @@
 //! Puts the names of a script into a trace as it comes.
 use crate::command_line::with;
 use crate::input::{open, tell_unopened};
-use crate::telling::{Place, line_of, tell_fault};
+use crate::telling::tell_fault;
 use clap::{Arg, Command as Words, Error};
 use mcs_explore_questions::ExploreFault;
-use mcs_lab_check::{LabFault, Names, TakesLines, take_lines};
+use mcs_lab_check::{LabFault, Labels, TakesLines, take_lines};
 use mcs_plan_source::tell_names;
+use mcs_plan_words::{Place, line_of};
 use mcs_sim::Source;
 use mcs_text::LineFault;
 use std::alloc::Global;
@@ -50,7 +51,7 @@ fn next_line(taken: u64) -> Result<u64, LabFault> {
 /// The lines of a script that give names.
 #[derive(Drop)]
 struct NameLines {
-    names: Names,
+    names: Labels,
     text: Vec<u8>,
     taken: u64,
 }
@@ -114,7 +115,7 @@ impl<W: Write + Drop> TakesLines for Trace<W> {
 /// Returns the lines of a script that give names. Fault `Form` for one without its form; the others
 /// are those of the lines and of a read.
 fn name_lines<R: Read>(alloc: Global, from: &mut Source<R>) -> Result<Vec<u8>, LabFault> {
-    let names = Names::new(alloc);
+    let names = Labels::new(alloc);
     let text = Vec::new(alloc);
     let mut lines = NameLines {
         names,
@@ -147,7 +148,7 @@ fn names_in(rt: &HostRuntime, file: Option<&str>) -> Result<Vec<u8>, ExitCode> {
 fn tell(rt: &HostRuntime, file: Option<&str>, fault: LabFault) -> ExitCode {
     let fault = ExploreFault::Lab(fault);
     let line = line_of(&fault);
-    tell_fault(rt, Place { file, line }, &fault, None)
+    tell_fault(rt, Place { file, line }, &fault)
 }
 
 /// Writes a trace with names.

@@ -1,8 +1,8 @@
 //! The first plans of a new user.
 use crate::command_line::with;
-use crate::path::Path;
 use clap::{Arg, ArgAction, ArgMatches, Command as Words, Error};
 use mcs_lab_check::{LabFault, Outcome};
+use mcs_plan_words::{Path, write_there};
 use std::alloc::Global;
 use std::fs::{self, File};
 use std::io::{self, ErrorKind, Write};
@@ -134,8 +134,7 @@ fn tell_unwritten(rt: &HostRuntime, path: &str, kind: ErrorKind, error: &io::Err
 
 /// Reports that a file exists already, and returns the exit status.
 fn tell_there(rt: &HostRuntime, path: &str) -> ExitCode {
-    let path = Path(path);
-    let _ = eprintln!(rt; "mcslab: {path} is there already; --force overwrites it");
+    let _ = write_there(&mut rt.stderr(), path);
     ExitCode::from(Outcome::Call.status())
 }
 

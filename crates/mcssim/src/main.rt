@@ -7,8 +7,8 @@ mod input;
 mod telling;
 
 use input::open;
-use mcs_options::{Options, Task, options};
-use mcs_sim::{Open, SimFault, Sink, Source, arguments, run_text, simulate};
+use mcs_command_line::{Options, Task, arguments, options};
+use mcs_sim::{Open, SimFault, Sink, Source, run_text, simulate};
 use std::alloc::{AllocError, AllocGlobal};
 use std::io::{self, Print, Read};
 use std::process::ExitCode;

@@ -1,7 +1,8 @@
 //! Reports faults.
 use clap::Error;
 use clap::error::ErrorKind;
-use mcs_sim::{SimFault, answer_status};
+use mcs_command_line::answer_status;
+use mcs_sim::SimFault;
 use std::process::ExitCode;
 use std::{fmt, io};
 

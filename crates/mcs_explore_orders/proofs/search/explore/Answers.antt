@@ -2,7 +2,7 @@ use Rattle.std.proofs.Common.{ap, sym, subst, ◌∙◌}
 use Rattle.mcs_book.specs.Boots.{IsFaultless}
 use Rattle.mcs_turns.specs.Turns.{AreInRange}
 use Rattle.mcs_explore_equivalence.proofs.Alikes.{likeness}
-use Rattle.mcs_explore_orders.specs.Exploring.{IsTold}
+use Rattle.mcs_explore_orders.specs.Exploring.{HasExactKeys}
 use Rattle.mcs_explore_orders.specs.Seen.{AreAllSeen, IsGraphOfRuns}
 use Rattle.mcs_explore_orders.specs.Shown.{HasCounted}
 use Rattle.mcs_explore_orders.specs.Watching.{counting}
@@ -20,9 +20,9 @@ returns-clause-whole g c = λ all.
     let e = c.in_ok-explorer.explorer.search in
     let is = c.in_ok-explorer.ensures in
     let found = c.in_ok-search.search.map.entries in
-    let told : IsTold e = record { exact = is.exact ∙ all.keys.exact; boot = subst IsFaultless (sym is.boot) all.keys.faultless; in_range = subst AreInRange (sym is.users) all.keys.in_range } in
+    let known : HasExactKeys e = record { exact = is.exact ∙ all.keys.exact; boot = subst IsFaultless (sym is.boot) all.keys.faultless; in_range = subst AreInRange (sym is.users) all.keys.in_range } in
     subst (λ n. AreAllSeen n c.args.users.now c.args.boot.now found) is.numbered (subst (λ us. AreAllSeen e.keys.numbered us c.args.boot.now found) is.users (subst (λ b. AreAllSeen e.keys.numbered e.users b found) is.boot
-    (all-seen e _ found told (likeness e.keys.numbered e.users e.boot told.boot told.in_range) (c.in_ok-search.ensures.whole all.all))))
+    (all-seen e _ found known (likeness e.keys.numbered e.users e.boot known.boot known.in_range) (c.in_ok-search.ensures.whole all.all))))
 
 pub returns-clause-within : goal.returns-clause-within
 returns-clause-within g c =
@@ -35,9 +35,9 @@ returns-clause-graph g c = λ keys.
     let found = c.in_ok-search.search.map.entries in
     let done = c.in_ok-search.search.done in
     let edges = c.in_ok-search.search.edges.items in
-    let told : IsTold e = record { exact = is.exact ∙ keys.exact; boot = subst IsFaultless (sym is.boot) keys.faultless; in_range = subst AreInRange (sym is.users) keys.in_range } in
+    let known : HasExactKeys e = record { exact = is.exact ∙ keys.exact; boot = subst IsFaultless (sym is.boot) keys.faultless; in_range = subst AreInRange (sym is.users) keys.in_range } in
     subst (λ n. IsGraphOfRuns n c.args.users.now c.args.boot.now found done edges) is.numbered (subst (λ us. IsGraphOfRuns e.keys.numbered us c.args.boot.now found done edges) is.users (subst (λ b. IsGraphOfRuns e.keys.numbered e.users b found done edges) is.boot
-    (graph-of e _ found done edges told (likeness e.keys.numbered e.users e.boot told.boot told.in_range) c.in_ok-search.ensures.graph)))
+    (graph-of e _ found done edges known (likeness e.keys.numbered e.users e.boot known.boot known.in_range) c.in_ok-search.ensures.graph)))
 
 pub returns-clause-shown : goal.returns-clause-shown
 returns-clause-shown g c = λ has.

@@ -7,14 +7,14 @@ use Rattle.mcs_explore_questions.proofs.Handing.{handed_on}
 use Rattle.mcs_explore_questions.proofs.forms.take_numbers.Goals as goal
 use Rattle.mcs_explore_questions.proofs.forms.take_numbers.Goals.{then-numbers-test+then-not-pattern+else-has_more, then-numbers-test+else-not-pattern, else-numbers-test}
 
-pub returns-in_err-take-clause-told : goal.returns-in_err-take-clause-told
-returns-in_err-take-clause-told c =
+pub returns-in_err-take-clause-error : goal.returns-in_err-take-clause-error
+returns-in_err-take-clause-error c =
     let at = c.numbers in
     let some : 0 < at.room = omega (arith, c.numbers-test.true) in
     let unended : at.pattern.ended ≡ false = search rules in
     let more : has_words at.words ≡ true = sym c.has_more.ensures ∙ c.if-has_more.true in
     handed_on _ _ _ c.from_residual.ensures.1 (λ m. at.invariant
-    ∙ numbers_refused (scene_of c.args.there) at.room (fit_of at.pattern at.words) at.words some unended more (c.in_err-take.ensures.told m))
+    ∙ numbers_refused (scene_of c.args.there) at.room (fit_of at.pattern at.words) at.words some unended more (c.in_err-take.ensures.error m))
 
 pub numbers-preserved : goal.numbers-preserved
 numbers-preserved c =

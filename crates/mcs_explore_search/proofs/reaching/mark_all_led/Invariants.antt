@@ -3,7 +3,7 @@ use Rattle.mcs_explore_search.proofs.Marks.{IsMarking}
 use Rattle.mcs_explore_search.proofs.reaching.mark_all_led.Given as goal
 
 abbrev pub invariant-loop : goal.invariant-loop
-invariant-loop l = IsMarking l.edges l.initial.marks.items l.marks.items
+invariant-loop g l = IsMarking l.edges l.initial.marks.items l.marks.items
 
 abbrev pub decreases-loop : goal.decreases-loop
-decreases-loop l = unmarked l.marks.items
+decreases-loop g l = unmarked l.marks.items

@@ -5,7 +5,7 @@ use Rattle.mcs_explore_search.proofs.Marks.{swept-by}
 use Rattle.mcs_explore_search.proofs.reaching.sweep.Goals as goal
 
 pub loop-number-preserved : goal.loop-number-preserved
-loop-number-preserved c =
+loop-number-preserved g c =
     let edges = c.args.edges.now in
     let lt = c.loop-number-test.true in
     let at = slice_get_read edges (length edges) (length edges - 1 - c.loop-number.number) c.in-Some.edge.now refl (omega (arith, lt)) c.in-Some.ensures.lookup.1 in

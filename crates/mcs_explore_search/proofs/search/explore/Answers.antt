@@ -15,17 +15,17 @@ loop-alloc-init g c = record {
 
 pub loop-alloc-preserved : goal.loop-alloc-preserved
 loop-alloc-preserved g c = record {
-  later = g.met.M.System.further c.args.system.now c.loop-alloc.system c.look_behind.new.system c.loop-alloc.invariant.later c.look_behind.ensures.later;
-  seen = λ begun. c.in_ok-look_behind.ensures.seen (c.loop-alloc.invariant.seen begun);
-  searching = c.in_ok-look_behind.ensures.searching;
-  near = near-on c.args.budget.depth c.loop-alloc.search.done c.look_behind.new.search.done c.loop-alloc.search.map.entries c.look_behind.new.search.map.entries c.in_ok-look_behind.ensures.done
-      (c.goes_on.ensures.more c.loop-alloc-test.true) (c.goes_on.ensures.depth c.loop-alloc-test.true) c.in_ok-look_behind.ensures.longer c.loop-alloc.invariant.near;
-  few = few-on c.args.budget.states c.loop-alloc.search.done c.look_behind.new.search.done c.loop-alloc.search.map.entries c.look_behind.new.search.map.entries c.in_ok-look_behind.ensures.done
-      (c.goes_on.ensures.states c.loop-alloc-test.true) c.in_ok-look_behind.ensures.from;
+  later = g.met.M.System.further c.args.system.now c.loop-alloc.system c.expand.new.system c.loop-alloc.invariant.later c.expand.ensures.later;
+  seen = λ begun. c.in_ok-expand.ensures.seen (c.loop-alloc.invariant.seen begun);
+  searching = c.in_ok-expand.ensures.searching;
+  near = near-on c.args.budget.depth c.loop-alloc.search.done c.expand.new.search.done c.loop-alloc.search.map.entries c.expand.new.search.map.entries c.in_ok-expand.ensures.done
+      (c.goes_on.ensures.more c.loop-alloc-test.true) (c.goes_on.ensures.depth c.loop-alloc-test.true) c.in_ok-expand.ensures.longer c.loop-alloc.invariant.near;
+  few = few-on c.args.budget.states c.loop-alloc.search.done c.expand.new.search.done c.loop-alloc.search.map.entries c.expand.new.search.map.entries c.in_ok-expand.ensures.done
+      (c.goes_on.ensures.states c.loop-alloc-test.true) c.in_ok-expand.ensures.from;
 }
 
-pub returns-in_err-look_behind-clause-later : goal.returns-in_err-look_behind-clause-later
-returns-in_err-look_behind-clause-later g c = g.met.M.System.further c.args.system.now c.loop-alloc.system c.look_behind.new.system c.loop-alloc.invariant.later c.look_behind.ensures.later
+pub returns-in_err-expand-clause-later : goal.returns-in_err-expand-clause-later
+returns-in_err-expand-clause-later g c = g.met.M.System.further c.args.system.now c.loop-alloc.system c.expand.new.system c.loop-alloc.invariant.later c.expand.ensures.later
 
 pub returns-clause-reached : goal.returns-clause-reached
 returns-clause-reached g c =

@@ -11,11 +11,11 @@ loop-count-preserved c = (
   c.take_next.ensures.laid ∙ c.loop-count.invariant.1,
 )
 
-pub returns-in_err-take_next-clause-told : goal.returns-in_err-take_next-clause-told
-returns-in_err-take_next-clause-told c =
+pub returns-in_err-take_next-clause-error : goal.returns-in_err-take_next-clause-error
+returns-in_err-take_next-clause-error c =
     handed_at _ c.in_err-take_next.field-0.0 _ c.from_residual.ensures.1
     (step_refused (laid_said c.args.compiler.now.laid) (laid_said c.loop-count.compiler.laid) (ap (λ l. laid_said l) c.loop-count.invariant.1) c.args.lines.now c.loop-count.count _ c.loop-count-test.true
-    c.loop-count.compiler.entries _ c.loop-count.invariant.0 c.in_err-take_next.field-0.0 c.in_err-take_next.ensures.told)
+    c.loop-count.compiler.entries _ c.loop-count.invariant.0 c.in_err-take_next.field-0.0 c.in_err-take_next.ensures.error)
 
 pub returns-in_err-take_next-clause-laid : goal.returns-in_err-take_next-clause-laid
 returns-in_err-take_next-clause-laid c = c.take_next.ensures.laid ∙ c.loop-count.invariant.1

@@ -7,4 +7,4 @@ pub returns : goal.returns
 returns c =
     taken c.args.text.now c.feed.new.self c.end.new.self
     (subst (λ (r : Going). Takes r c.args.text.now c.feed.new.self) c.in-Ok.ensures c.feed.ensures.takes)
-    (sym c.feed.ensures.told ∙ c.in_ok-feed.was) c.end.ensures.takes (sym c.end.ensures.told ∙ c.in_ok-end.was)
+    (sym c.feed.ensures.answer ∙ c.in_ok-feed.was) c.end.ensures.takes (sym c.end.ensures.answer ∙ c.in_ok-end.was)

@@ -1,11 +1,11 @@
 use Rattle.std.proofs.Common.{Option, ap, sym, subst, ◌∙◌}
 use Rattle.mcs_book.specs.History.{Book}
-use Rattle.mcs_sim.specs.Trace.{IsToldUpTo}
+use Rattle.mcs_sim.specs.Trace.{IsWrittenUpTo}
 use Rattle.mcs_phases.specs.Going.{book_lent}
-use Rattle.mcs_sim.proofs.GoingBooks.{told-of}
+use Rattle.mcs_sim.proofs.GoingBooks.{written-of}
 use Rattle.mcs_sim.proofs.replaying.put_line.Goals as goal
 
-pub put_read-requires-clause-told : goal.put_read-requires-clause-told
-put_read-requires-clause-told g c =
+pub put_read-requires-clause-written : goal.put_read-requires-clause-written
+put_read-requires-clause-written g c =
     let there = sym c.book.ensures.lent ∙ ap book_lent c.in-Some.is in
-    told-of c.args.told.now c.in-Some.book.now.book (subst (λ (k : Option Book). IsToldUpTo c.args.told.now k) there c.requires.told)
+    written-of c.args.written.now c.in-Some.book.now.book (subst (λ (k : Option Book). IsWrittenUpTo c.args.written.now k) there c.requires.written)

@@ -70,8 +70,8 @@ fn who_may_not_enter_is_turned_away(rt: HostRuntime) -> Result<(), Fail> {
     let mut kernel = booted(rt.alloc(), LOOSE_THREADS)?;
     for &(core, serial, want) in ENTERING {
         assert!(rt; kernel.book().lines() == 1, "t{serial} on {core}");
-        let told = is_refused(rt.alloc(), &mut kernel, core, serial);
-        assert!(rt; told == want, "t{serial} on {core}");
+        let observed = is_refused(rt.alloc(), &mut kernel, core, serial);
+        assert!(rt; observed == want, "t{serial} on {core}");
     }
     assert!(rt; kernel.book().lines() == 2);
     Ok(())
@@ -99,8 +99,8 @@ fn a_full_book_takes_no_line(rt: HostRuntime) -> Result<(), Fail> {
     let mut kernel = booted(rt.alloc(), FIVE_THREADS)?;
     assert!(rt; is_filled(rt.alloc(), &mut kernel));
     for &(serial, fault) in FULL {
-        let told = is_refused(rt.alloc(), &mut kernel, 0, serial);
-        assert!(rt; told == Err(fault) && kernel.book().lines() == LINES);
+        let observed = is_refused(rt.alloc(), &mut kernel, 0, serial);
+        assert!(rt; observed == Err(fault) && kernel.book().lines() == LINES);
     }
     Ok(())
 }

@@ -56,10 +56,10 @@ impl Gate for Crossing {
 type TurnedAway = Option<(usize, EnterFault)>;
 
 /// Returns whether this is all that was skipped.
-fn is_away(told: Away, away: &TurnedAway) -> bool {
+fn is_away(observed: Away, away: &TurnedAway) -> bool {
     match *away {
-        None => told.0 == 0,
-        Some((lines, fault)) => told == (1, Some((CoreId(0), thread(1), lines, fault))),
+        None => observed.0 == 0,
+        Some((lines, fault)) => observed == (1, Some((CoreId(0), thread(1), lines, fault))),
     }
 }
 
@@ -102,9 +102,9 @@ fn is_crossed<R: Threads + Wait + Sync>(
 ) -> Result<bool, Fail> {
     let script = format!(in alloc; "{boot}{steps}")?;
     let ran = crossed(rt, alloc, script.as_str(), answers)?;
-    let told = ran.away;
+    let observed = ran.away;
     Ok(
-        aways.iter().any(|away| is_away(told, away))
+        aways.iter().any(|away| is_away(observed, away))
             && has_trace(alloc, ran.settled.book(), boot, trace)?,
     )
 }

@@ -203,7 +203,7 @@ fn failed<R: AllocGlobal + Threads + Wait + Sync>(
 }
 
 #[test]
-fn a_failing_read_or_write_is_told(rt: HostRuntime) {
+fn a_failing_read_or_write_is_reported(rt: HostRuntime) {
     assert!(rt; failed(&rt, 0, u32::MAX) == (Err(SimFault::Read), 1, 0));
     assert!(rt; failed(&rt, u32::MAX, 0) == (Err(SimFault::Write), 0, 1));
 }

@@ -55,7 +55,7 @@ fn enter_step<G: Ledger, L: Lines, R: Wait>(
     let answer = line.answer(alloc)?;
     let step = line.step(alloc)?;
     match machine.enter(rt, alloc, seat, step.thread, step.entry) {
-        Ok(told) if told.line == number && told.answer.is_same(&answer) => Ok(()),
+        Ok(observed) if observed.line == number && observed.answer.is_same(&answer) => Ok(()),
         _ => Err(Fail::from("the entry is let in as its line")),
     }
 }

@@ -56,7 +56,7 @@ fn is_limited(
 }
 
 #[test]
-fn failed_reads_and_writes_are_told(rt: HostRuntime) {
+fn failed_reads_and_writes_are_reported(rt: HostRuntime) {
     for (i, &(limits, want, count)) in LIMITS.iter().enumerate() {
         assert!(rt; is_limited(rt.alloc(), limits, want, count), "row {i}");
     }
@@ -145,11 +145,11 @@ fn ended(
         interruptions: 0,
     };
     let (result, taken) = piped(alloc, input, output);
-    let is_told = match result {
+    let is_reported = match result {
         Ok(()) => taken.as_slice() == trace,
-        Err(told) => told == fault && trace.starts_with(&taken),
+        Err(observed) => observed == fault && trace.starts_with(&taken),
     };
-    is_told.then_some(result)
+    is_reported.then_some(result)
 }
 
 #[test]
@@ -160,14 +160,17 @@ fn each_read_fails_in_turn(rt: HostRuntime) -> Result<(), Fail> {
     let pieces = u32::try_from(script.len().div_ceil(READ_PIECE)).unwrap_or(u32::MAX);
     let reads = pieces.saturating_add(1);
     for left in 0..=reads {
-        let told = ended(
+        let observed = ended(
             rt.alloc(),
             (&script, &trace),
             (left, u32::MAX),
             SimFault::Read,
         );
-        let is_ok = told == Some(Ok(()));
-        assert!(rt; told.is_some() && is_ok == (left == reads), "read {left}");
+        let is_ok = observed == Some(Ok(()));
+        assert!(rt;
+            observed.is_some() && is_ok == (left == reads),
+            "read {left}"
+        );
     }
     Ok(())
 }

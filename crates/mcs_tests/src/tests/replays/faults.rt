@@ -1,6 +1,6 @@
 //! What the program reports of its faults, its arguments and its command line.
-use mcs_options::{Options, Task, options};
-use mcs_sim::{SimFault, answer_status, arguments};
+use mcs_command_line::{Options, Task, answer_status, arguments, options};
+use mcs_sim::SimFault;
 use mcs_text::LineFault;
 use std::alloc::Global;
 use std::env::{Env, FillError};
@@ -48,7 +48,7 @@ fn is_numbered(alloc: Global, why: LineFault, number: usize) -> Result<bool, Fai
 }
 
 #[test]
-fn faults_are_told(rt: HostRuntime) -> Result<(), Fail> {
+fn faults_are_reported(rt: HostRuntime) -> Result<(), Fail> {
     for (i, why) in LINE_FAULTS.iter().enumerate() {
         assert!(rt;
             is_numbered(rt.alloc(), *why, i.saturating_add(1))?,
@@ -100,8 +100,8 @@ fn asks_replay(alloc: Global, given: &[&[u8]]) -> Result<bool, SimFault> {
 #[test]
 fn an_argument_that_is_no_text_is_a_fault(rt: HostRuntime) {
     assert!(rt; asks_replay(rt.alloc(), &[b"mcssim", b"replay"]) == Ok(true));
-    let told = asks_replay(rt.alloc(), &[b"mcssim", b"\xff"]);
-    assert!(rt; told == Err(SimFault::Argument));
+    let observed = asks_replay(rt.alloc(), &[b"mcssim", b"\xff"]);
+    assert!(rt; observed == Err(SimFault::Argument));
 }
 
 /// Command lines, and their results: a command, with a number of cores, with `explain`, and with
@@ -161,25 +161,25 @@ fn is_said(text: &str, part: &str) -> bool {
 }
 
 /// Returns the task that the table names.
-fn task(told: &str) -> Option<Task> {
-    if told == "replay" {
+fn task(observed: &str) -> Option<Task> {
+    if observed == "replay" {
         return Some(Task::Replay);
     }
-    let cores = told.strip_prefix("run")?.trim_start().parse().ok();
+    let cores = observed.strip_prefix("run")?.trim_start().parse().ok();
     Some(Task::Run { cores })
 }
 
 /// Returns whether options are those that the table names.
 fn is_asked(asked: &Options<'_>, want: &str) -> bool {
-    let (told, file) = match want.split_once(" < ") {
-        Some((told, file)) => (told, Some(file)),
+    let (observed, file) = match want.split_once(" < ") {
+        Some((observed, file)) => (observed, Some(file)),
         None => (want, None),
     };
-    let (told, explain) = match told.strip_suffix(" explain") {
-        Some(told) => (told, true),
-        None => (told, false),
+    let (observed, explain) = match observed.strip_suffix(" explain") {
+        Some(observed) => (observed, true),
+        None => (observed, false),
     };
-    task(told) == Some(asked.task) && asked.file == file && asked.explain == explain
+    task(observed) == Some(asked.task) && asked.file == file && asked.explain == explain
 }
 
 /// Returns whether a command line has this result.

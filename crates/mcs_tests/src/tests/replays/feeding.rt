@@ -43,8 +43,8 @@ fn a_fault_stays(rt: HostRuntime) -> Result<(), Fail> {
         for (i, piece) in pieces.iter().enumerate() {
             assert!(rt; is_fed(rt.alloc(), &mut run, *piece), "piece {i}");
         }
-        let told = run.feed(rt.alloc(), b"\n");
-        assert!(rt; told.is_err() && run.end(rt.alloc()) == told && run.book().is_none());
+        let observed = run.feed(rt.alloc(), b"\n");
+        assert!(rt; observed.is_err() && run.end(rt.alloc()) == observed && run.book().is_none());
     }
     Ok(())
 }

@@ -139,7 +139,7 @@ fn a_line_has_4096_bytes_at_most(rt: HostRuntime) -> Result<(), Fail> {
 /// A step that is refused, and its trace.
 const REFUSED: &str = "0 t1 recv 1 8\n";
 
-const TOLD: &str = "0 t1 recv 1 8\n= refused 5\n";
+const ANSWERED: &str = "0 t1 recv 1 8\n= refused 5\n";
 
 /// Returns whether a script ends so and writes this, or a prefix of it after a fault.
 fn writes(alloc: Global, script: &[u8], want: &[u8], end: Result<(), SimFault>) -> bool {
@@ -153,7 +153,7 @@ fn writes(alloc: Global, script: &[u8], want: &[u8], end: Result<(), SimFault>) 
 
 #[test]
 fn a_full_book_takes_no_step(rt: HostRuntime) -> Result<(), Fail> {
-    let want = repeated(rt.alloc(), (BOOT, TOLD, 999_999, ""))?;
+    let want = repeated(rt.alloc(), (BOOT, ANSWERED, 999_999, ""))?;
     let script = repeated(rt.alloc(), (BOOT, REFUSED, 1_000_000, ""))?;
     let full = &script[..script.len().saturating_sub(REFUSED.len())];
     assert!(rt; writes(rt.alloc(), full, &want, Ok(())));

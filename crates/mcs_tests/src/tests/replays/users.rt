@@ -50,13 +50,16 @@ fn ends<R: AllocGlobal + Threads + Wait + Sync>(
         }
         None => pipe(rt.alloc(), &mut input, &mut output),
     };
-    let is_told = match result {
-        Err(SimFault::Script { line: told, why }) => {
-            told == u64::from(line) && u32::from(why.number()) == number
-        }
+    let is_reported = match result {
+        Err(
+            SimFault::Script {
+                line: observed,
+                why,
+            },
+        ) => { observed == u64::from(line) && u32::from(why.number()) == number }
         _ => false,
     };
-    is_told && output.taken.is_empty() && input.reads == reads
+    is_reported && output.taken.is_empty() && input.reads == reads
 }
 
 /// Texts, the number of the endless line, and the number of reads up to its 4,097th byte: one for
@@ -64,7 +67,7 @@ fn ends<R: AllocGlobal + Threads + Wait + Sync>(
 const ENDLESS: &[(&str, u32, u32)] = &[("", 1, 2), ("cores 1\n", 2, 3), (BOOT, 37, 38)];
 
 #[test]
-fn an_endless_line_is_told_at_its_4097th_byte(rt: HostRuntime) {
+fn an_endless_line_is_reported_at_its_4097th_byte(rt: HostRuntime) {
     for &(text, line, reads) in ENDLESS {
         for users in [Some(None), None] {
             assert!(rt;
@@ -116,7 +119,7 @@ fn is_faulty<R: AllocGlobal + Threads + Wait + Sync>(rt: &R, row: &str) -> Resul
 }
 
 #[test]
-fn a_fault_is_told_before_the_next_line_is_read(rt: HostRuntime) -> Result<(), Fail> {
+fn a_fault_is_reported_before_the_next_line_is_read(rt: HostRuntime) -> Result<(), Fail> {
     for row in FAULTS.lines() {
         assert!(rt; is_faulty(&rt, row)?, "{row}");
     }

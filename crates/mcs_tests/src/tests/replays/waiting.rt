@@ -9,7 +9,7 @@ use std::test::Fail;
 /// A step without a receiver, and its trace.
 const STEP: &str = "0 t1 nbsend 1 7\n";
 
-const TOLD: &str = "0 t1 nbsend 1 7\n= done\n";
+const ANSWERED: &str = "0 t1 nbsend 1 7\n= done\n";
 
 /// How many pieces of steps follow the one with the boot.
 const ROUNDS: usize = 3;
@@ -21,7 +21,7 @@ fn wanted(piece: usize, reads: usize) -> usize {
         return 0;
     }
     let steps = (piece / STEP.len()).saturating_mul(reads.saturating_sub(1));
-    let answers = steps.saturating_add(1).saturating_mul(TOLD.len());
+    let answers = steps.saturating_add(1).saturating_mul(ANSWERED.len());
     answers.saturating_add(BOOT.len())
 }
 

@@ -107,8 +107,8 @@ fn objects_are_made_found_and_removed(rt: HostRuntime) -> Result<(), Fail> {
     assert!(rt; store.is_full());
     for (i, &(call, objects, counts)) in CALLS.iter().enumerate() {
         assert!(rt; call.answers(&mut store), "the answer of call {i}");
-        let told = (kept(&store, 1), kept(&store, 2), kept(&store, 3));
-        assert!(rt; told == objects, "the objects after call {i}");
+        let observed = (kept(&store, 1), kept(&store, 2), kept(&store, 3));
+        assert!(rt; observed == objects, "the objects after call {i}");
         assert!(rt;
             (store.given(), store.len()) == counts,
             "the counts after call {i}"

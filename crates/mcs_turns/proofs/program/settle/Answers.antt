@@ -8,13 +8,13 @@ use Rattle.mcs_turns.proofs.program.settle.Goals as goal
 pub loop-done-preserved : goal.loop-done-preserved
 loop-done-preserved c =
     let ops = c.args.ops.now in
-    let told = c.args.told.now in
+    let last = c.args.last.now in
     let op = c.in-Some.op in
     let kept : Saved = c.loop-done.kept in
     let place = c.loop-done.place in
     let left : ℕ = length ops - (c.loop-done.done + 1) in
     let more : length ops - c.loop-done.done ≡ suc left = omega (arith, c.loop-done-test.true) in
     let at : slice_get ops place ≡ Some op = sym c.op_at.ensures ∙ c.in-Some.is in
-    c.loop-done.invariant ∙ settled-on ops told (length ops - c.loop-done.done) left kept place op more at (sym c.given.ensures ∙ c.in_default-given.is)
-    ∙ ap (λ s. settled left ops told s (op_next told kept place op)) (sym c.saved-kept.ensures)
-    ∙ ap (λ p. settled left ops told c.saved-kept.result p) (sym c.next-next.ensures)
+    c.loop-done.invariant ∙ settled-on ops last (length ops - c.loop-done.done) left kept place op more at (sym c.given.ensures ∙ c.in_default-given.is)
+    ∙ ap (λ s. settled left ops last s (op_next last kept place op)) (sym c.saved-kept.ensures)
+    ∙ ap (λ p. settled left ops last c.saved-kept.result p) (sym c.next-next.ensures)

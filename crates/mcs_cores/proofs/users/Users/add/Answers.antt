@@ -5,7 +5,7 @@ use Rattle.mcs_types.specs.declared.id.ObjId.{ObjId}
 use Rattle.mcs_types.specs.declared.entry.Entry.{Entry}
 use Rattle.mcs_types.specs.Ids.{same}
 use Rattle.mcs_cores.specs.Users.{User, with_entry}
-use Rattle.mcs_cores.proofs.Adding.{added-within, added-behind}
+use Rattle.mcs_cores.proofs.Adding.{added-within, added-after}
 use Rattle.mcs_cores.proofs.users.Users.add.Goals as goal
 
 pub returns-in-Some-clause-added : goal.returns-in-Some-clause-added
@@ -24,5 +24,5 @@ returns-in_ok-push-in-None-clause-added c =
     let us : List User = c.args.self.now in
     let t : ObjId = c.args.thread in
     let none : position (λ (u : User). same u.thread t) us ≡ None = sym c.find.ensures ∙ c.in-None.is in
-    let added = added-behind us t c.args.entry none in
+    let added = added-after us t c.args.entry none in
     rw (← added) (search rules)

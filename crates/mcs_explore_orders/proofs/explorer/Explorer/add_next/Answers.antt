@@ -7,15 +7,15 @@ use Rattle.mcs_explore_walk.specs.declared.walk.Turn.{Turn}
 use Rattle.mcs_explore_orders.specs.Trails.{Leads}
 use Rattle.mcs_explore_orders.specs.Exploring.{AreNextsOf, IsKeyIn, numbers_of}
 use Rattle.mcs_explore_orders.specs.Watching.{Watching, counting}
-use Rattle.mcs_explore_orders.specs.Shown.{HasCounted, IsToldTurn}
-use Rattle.mcs_explore_orders.proofs.Telling.{none-told, one-told}
+use Rattle.mcs_explore_orders.specs.Shown.{HasCounted, IsShownTurn}
+use Rattle.mcs_explore_orders.proofs.Telling.{none-reported, one-reported}
 use Rattle.mcs_explore_orders.proofs.Nexts.{none-more, one-more}
 use Rattle.mcs_explore_orders.proofs.explorer.Explorer.add_next.Goals as goal
 
 pub returns-in_ok-push-clause-nexts : goal.returns-in_ok-push-clause-nexts
 returns-in_ok-push-clause-nexts g c = λ ts are.
     let old = c.args.self.now.search in
-    let new = c.behind.new.self.search in
+    let new = c.after_turn.new.self.search in
     let at = c.args.walk.value in
     let key = c.in-Some.key in
     let label = c.in_ok-label.label in
@@ -32,21 +32,21 @@ returns-in_default-clause-nexts g c = λ ts are.
     let old = c.args.self.now.search in
     let at = c.args.walk.value in
     let none = subst (λ o. IfNone o ((h : Going) → Leads old.users c.args.turn at h → ⊥)) c.in_default.is c.in_ok-key.ensures.none in
-    none-more old c.behind.new.self.search c.in_ok-key.ensures.later.search at ts c.args.turn (numbers_of c.args.nexts.now.items) none are
+    none-more old c.after_turn.new.self.search c.in_ok-key.ensures.later.search at ts c.args.turn (numbers_of c.args.nexts.now.items) none are
 
-pub returns-in_ok-push-clause-told : goal.returns-in_ok-push-clause-told
-returns-in_ok-push-clause-told g c =
+pub returns-in_ok-push-clause-reported : goal.returns-in_ok-push-clause-reported
+returns-in_ok-push-clause-reported g c =
     let old = c.args.self.now in
-    let new = c.behind.new.self in
+    let new = c.after_turn.new.self in
     let at = c.args.walk.value in
-    let told = subst (λ o. IfSome o (λ (k : Vec ℕ Global). IsToldTurn (HasCounted g.W.Watch.HasSeen) (counting old) (counting new) old.search.users c.args.place c.args.turn at)) c.in-Some.is c.in_ok-key.ensures.told in
-    one-told (HasCounted g.W.Watch.HasSeen) (counting old) (counting new) old.search.users c.args.place at c.args.turn told
+    let reported = subst (λ o. IfSome o (λ (k : Vec ℕ Global). IsShownTurn (HasCounted g.W.Watch.HasSeen) (counting old) (counting new) old.search.users c.args.place c.args.turn at)) c.in-Some.is c.in_ok-key.ensures.reported in
+    one-reported (HasCounted g.W.Watch.HasSeen) (counting old) (counting new) old.search.users c.args.place at c.args.turn reported
 
-pub returns-in_default-clause-told : goal.returns-in_default-clause-told
-returns-in_default-clause-told g c =
+pub returns-in_default-clause-reported : goal.returns-in_default-clause-reported
+returns-in_default-clause-reported g c =
     let old = c.args.self.now in
-    let new = c.behind.new.self in
+    let new = c.after_turn.new.self in
     let at = c.args.walk.value in
     let none = subst (λ o. IfNone o ((h : Going) → Leads old.search.users c.args.turn at h → ⊥)) c.in_default.is c.in_ok-key.ensures.none in
     let same = subst (λ o. IfNone o (counting new ≡ counting old)) c.in_default.is c.in_ok-key.ensures.unseen in
-    none-told (HasCounted g.W.Watch.HasSeen) (counting old) (counting new) old.search.users c.args.place at c.args.turn same none
+    none-reported (HasCounted g.W.Watch.HasSeen) (counting old) (counting new) old.search.users c.args.place at c.args.turn same none

@@ -4,7 +4,7 @@ use Rattle.mcs_book.specs.History.{log_of}
 use Rattle.mcs_book.specs.Picking.{GoesBefore}
 use Rattle.mcs_turns.specs.Turns.{User, Going}
 use Rattle.mcs_explore_walk.specs.Walks.{IsBestBelow}
-use Rattle.mcs_explore_walk.proofs.Picking.{goes_behind, goes_first}
+use Rattle.mcs_explore_walk.proofs.Picking.{goes_after, goes_first}
 use Rattle.mcs_explore_walk.proofs.walk.Walk.better.Goals as goal
 
 pub returns-then-goes_before : goal.returns-then-goes_before
@@ -24,5 +24,5 @@ returns-else-goes_before g c =
     let at : slice_get users c.in-Some.before.user ≡ Some c.in-Some-at.list.now = sym c.at.ensures ∙ ap (λ o. option_copied o) c.in-Some-at.is in
     let goes = subst (λ (w : Going). GoesBefore (log_of w.book) c.in-Some-at.list.now.thread c.args.offer.thread) c.self.view_is
     (subst (λ (u : User). GoesBefore (log_of c.self.inside.kernel) u.thread c.args.offer.thread) c.list.view_is (c.goes_before.ensures.no c.if-goes_before.false)) in
-    goes_behind users walk c.args.user c.args.offer c.in-Some.before c.in-Some-at.list.now c.requires.offer
+    goes_after users walk c.args.user c.args.offer c.in-Some.before c.in-Some-at.list.now c.requires.offer
     (subst (λ b. IsBestBelow users walk c.args.offer.core c.args.user b) c.in-Some.is c.requires.best) at goes

@@ -9,7 +9,7 @@ returns-clause-added c =
     subst (λ (r : ReadAt (Unit {0})). OnOk c.do_opening.result (r ≡ Ok tt))
     (sym (same_opening (laid_said c.args.self.now.laid) c.args.place c.in_ok-opening.opening c.in_ok-opening.ensures.opening)) c.do_opening.ensures.added
 
-pub returns-clause-told : goal.returns-clause-told
-returns-clause-told c =
+pub returns-clause-error : goal.returns-clause-error
+returns-clause-error c =
     subst (λ (r : ReadAt (Unit {0})). IfErr c.do_opening.result (RefusesAt r))
-    (sym (same_opening (laid_said c.args.self.now.laid) c.args.place c.in_ok-opening.opening c.in_ok-opening.ensures.opening)) c.do_opening.ensures.told
+    (sym (same_opening (laid_said c.args.self.now.laid) c.args.place c.in_ok-opening.opening c.in_ok-opening.ensures.opening)) c.do_opening.ensures.error

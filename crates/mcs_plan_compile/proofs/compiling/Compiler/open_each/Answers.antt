@@ -15,13 +15,13 @@ loop-place-preserved c =
       c.open.ensures.entries ∙ c.loop-place.invariant.2,
     )
 
-pub returns-in_err-open-clause-told : goal.returns-in_err-open-clause-told
-returns-in_err-open-clause-told c =
+pub returns-in_err-open-clause-error : goal.returns-in_err-open-clause-error
+returns-in_err-open-clause-error c =
     let within : c.loop-place.place < length (said c.args.self.now.laid.plan).passives =
     omega (arith, c.loop-place-test.true, c.len-place-end.ensures, passives_said c.args.self.now.laid.plan) in
     handed_at _ c.in_err-open.field-0.0 _ c.from_residual.ensures.1
     (opening_refused (laid_said c.args.self.now.laid) c.loop-place.place within (laid_said c.loop-place.self.laid) _ c.in_err-open.field-0.0
-    (ap (λ l. laid_said l) c.loop-place.invariant.1) c.loop-place.invariant.0 c.in_err-open.ensures.told)
+    (ap (λ l. laid_said l) c.loop-place.invariant.1) c.loop-place.invariant.0 c.in_err-open.ensures.error)
 
 pub returns-clause-added : goal.returns-clause-added
 returns-clause-added c =

@@ -14,10 +14,10 @@ returns-clause-added c =
     let there : slice_get c.args.self.now.spaces.items c.args.place ≡ Some c.in-Some.space.now = slice_get_read c.args.self.now.spaces.items _ _ _ refl c.in-Some.ensures.item.3.0 c.in-Some.ensures.item.1 in
     on_ok c.add.result _ _ (λ h. added_there c.args.self.now c.args.place c.in-Some.space.now c.add.new.self c.args.name.now c.args.slot there h) c.add.ensures.added
 
-pub returns-clause-told : goal.returns-clause-told
-returns-clause-told c =
+pub returns-clause-error : goal.returns-clause-error
+returns-clause-error c =
     let there : slice_get c.args.self.now.spaces.items c.args.place ≡ Some c.in-Some.space.now = slice_get_read c.args.self.now.spaces.items _ _ _ refl c.in-Some.ensures.item.3.0 c.in-Some.ensures.item.1 in
-    IfErr-weaker c.add.result _ _ (λ w h e p. refused_there c.args.self.now c.args.place c.in-Some.space.now c.args.name.now c.args.slot w e there h p) c.add.ensures.told
+    IfErr-weaker c.add.result _ _ (λ w h e p. refused_there c.args.self.now c.args.place c.in-Some.space.now c.args.name.now c.args.slot w e there h p) c.add.ensures.error
 
 pub returns-clause-unchanged : goal.returns-clause-unchanged
 returns-clause-unchanged c =

@@ -1,6 +1,6 @@
 use Rattle.std.proofs.lemmas.Result.{IfErr-weaker}
 use Rattle.mcs_plan_source.specs.Saying.{said}
-use Rattle.mcs_plan_source.proofs.Faults.{has_told, begun_told}
+use Rattle.mcs_plan_source.proofs.Faults.{has_refused, begun_refused}
 use Rattle.mcs_plan_source.proofs.KeepingLines.{has_taken, begun_taken}
 use Rattle.mcs_plan_source.proofs.Places.{on_ok}
 use Rattle.mcs_plan_source.proofs.Whole.{has_taken_whole, begun_taken_whole}
@@ -8,7 +8,7 @@ use Rattle.mcs_plan_source.proofs.plan.Plan.read.Goals as goal
 
 pub returns-then-says_has-clause-fault : goal.returns-then-says_has-clause-fault
 returns-then-says_has-clause-fault c =
-    IfErr-weaker c.read_has.result _ _ (has_told c.in-Some.first.now c.next-then-says_has.new.self (said c.args.self.now)) c.read_has.ensures.told
+    IfErr-weaker c.read_has.result _ _ (has_refused c.in-Some.first.now c.next-then-says_has.new.self (said c.args.self.now)) c.read_has.ensures.error
 
 pub returns-then-says_has-clause-in_order : goal.returns-then-says_has-clause-in_order
 returns-then-says_has-clause-in_order c =
@@ -16,7 +16,7 @@ returns-then-says_has-clause-in_order c =
 
 pub returns-clause-fault : goal.returns-clause-fault
 returns-clause-fault c =
-    IfErr-weaker c.read_line.result _ _ (begun_told c.args.line c.in-Some.first.now c.next.new.self (said c.args.self.now)) c.read_line.ensures.told
+    IfErr-weaker c.read_line.result _ _ (begun_refused c.args.line c.in-Some.first.now c.next.new.self (said c.args.self.now)) c.read_line.ensures.error
 
 pub returns-clause-in_order : goal.returns-clause-in_order
 returns-clause-in_order c =

@@ -17,11 +17,11 @@ loop-preserved c = elim c.match-next.branch [
       w.in_default.ensures.none.0 w.in_default.ensures.none.1 c.loop.invariant)
 ]
 
-pub returns-in_err-read_slot-clause-told : goal.returns-in_err-read_slot-clause-told
-returns-in_err-read_slot-clause-told c =
+pub returns-in_err-read_slot-clause-error : goal.returns-in_err-read_slot-clause-error
+returns-in_err-read_slot-clause-error c =
     handed_on _ _ _ c.from_residual.ensures.1 (λ e p.
     slots_refused c.loop.counter c.len-end.result c.args.place c.in-Some.word.now c.loop.words c.next.new.self (said c.loop.self) _ e c.loop-test.true
-    c.in-Some.ensures.word (c.in_err-read_slot.ensures.told e p) c.loop.invariant)
+    c.in-Some.ensures.word (c.in_err-read_slot.ensures.error e p) c.loop.invariant)
 
 pub returns-clause-added : goal.returns-clause-added
 returns-clause-added c = slots_last c.loop.counter c.len-end.result c.args.place c.loop.words (said c.loop.self) _ c.loop-test.false c.loop.invariant

@@ -39,13 +39,13 @@ pub returns-then-is_noted : goal.returns-then-is_noted
 returns-then-is_noted c =
     let own = before c.self.view_is c.args.count c.args.line.now c.requires.line c.self.invariant.some c.requires.right c.requires.later c.requires.own in
     let call = call-at c.self.view_is c.args.count c.in-Some.call.now c.in-Some.ensures.lookup.3.0 c.in-Some.ensures.lookup.1 in
-    line-own c.args.self.now c.args.count c.requires.line.line own c.in-Some.call.now c.in-Told.told call c.in-Told.is
+    line-own c.args.self.now c.args.count c.requires.line.line own c.in-Some.call.now c.in-Entered.answered call c.in-Entered.is
     (sym (noted c.self.view_is c.args.line.now c.requires.line) ∙ c.is_noted.ensures.0 c.if-is_noted.true)
 
 pub returns-else-is_noted : goal.returns-else-is_noted
 returns-else-is_noted c =
     let own = before c.self.view_is c.args.count c.args.line.now c.requires.line c.self.invariant.some c.requires.right c.requires.later c.requires.own in
     let call = call-at c.self.view_is c.args.count c.in-Some.call.now c.in-Some.ensures.lookup.3.0 c.in-Some.ensures.lookup.1 in
-    line-other c.args.self.now c.args.count c.requires.line.line own c.in-Some.call.now c.in-Told.told call c.in-Told.is
+    line-other c.args.self.now c.args.count c.requires.line.line own c.in-Some.call.now c.in-Entered.answered call c.in-Entered.is
     (λ same. let yes : c.is_noted.result ≡ true = c.is_noted.ensures.1 (noted c.self.view_is c.args.line.now c.requires.line ∙ same) in
     let no = c.if-is_noted.false in absurd cc)

@@ -21,7 +21,7 @@ returns-in_err-take_kept-clause-takes c =
     let going = is-going c.self.inside.fault (seen c.self.inside.phase) c.self.inside.lines c.self.inside.line.items c.args.self.now c.self.view_is goes in
     let some = ap (λ (l : List ℕ). eqb (length l) 0) (sym going.kept) ∙ ap (λ (n : ℕ). eqb n 0) (sym c.self.inside.line.ok.0) ∙ sym c.is_empty.ensures ∙ c.if-is_empty.false in
     end-line c.args.self.now.course c.args.self.now.line c.take_kept.new.self c.in_err-take_kept.field-0.0 goes some c.take_kept.ensures.takes c.take_kept.ensures.begins
-    (answer-err _ _ (sym c.in_err-take_kept.was ∙ c.take_kept.ensures.told))
+    (answer-err _ _ (sym c.in_err-take_kept.was ∙ c.take_kept.ensures.answer))
 
 pub returns-clause-takes : goal.returns-clause-takes
 returns-clause-takes c =
@@ -29,4 +29,4 @@ returns-clause-takes c =
     let going = is-going c.self.inside.fault (seen c.self.inside.phase) c.self.inside.lines c.self.inside.line.items c.args.self.now c.self.view_is goes in
     let some = ap (λ (l : List ℕ). eqb (length l) 0) (sym going.kept) ∙ ap (λ (n : ℕ). eqb n 0) (sym c.self.inside.line.ok.0) ∙ sym c.is_empty.ensures ∙ c.if-is_empty.false in
     end-both c.args.self.now.course c.take_kept.new.self.course c.args.self.now.line c.end_boot-2.new.self goes some c.take_kept.ensures.takes
-    (answer-ok _ _ (sym c.in_ok-take_kept.was ∙ c.take_kept.ensures.told)) c.end_boot-2.ensures.ends c.end_boot-2.ensures.begins
+    (answer-ok _ _ (sym c.in_ok-take_kept.was ∙ c.take_kept.ensures.answer)) c.end_boot-2.ensures.ends c.end_boot-2.ensures.begins

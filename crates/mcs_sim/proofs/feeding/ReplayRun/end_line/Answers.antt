@@ -12,9 +12,9 @@ returns-then-is_empty-clause-takes c =
 pub returns-in_err-keep-clause-takes : goal.returns-in_err-keep-clause-takes
 returns-in_err-keep-clause-takes c =
     takes-append c.args.self.now c.keep.new.self c.keep.new.self c.args.part.now (10 ∷ []) c.keep.ensures.takes
-    (takes-stopped c.keep.new.self c.in_err-keep.field-0.0 (10 ∷ []) (answer-err _ _ (sym c.in_err-keep.was ∙ c.keep.ensures.told)))
+    (takes-stopped c.keep.new.self c.in_err-keep.field-0.0 (10 ∷ []) (answer-err _ _ (sym c.in_err-keep.was ∙ c.keep.ensures.answer)))
 
 pub returns-clause-takes : goal.returns-clause-takes
 returns-clause-takes c =
     takes-append c.args.self.now c.keep.new.self c.take_kept.new.self c.args.part.now (10 ∷ []) c.keep.ensures.takes
-    (line-kept c.keep.new.self c.take_kept.new.self (answer-ok _ _ (sym c.in_ok-keep.was ∙ c.keep.ensures.told)) c.take_kept.ensures.takes c.take_kept.ensures.begins)
+    (line-kept c.keep.new.self c.take_kept.new.self (answer-ok _ _ (sym c.in_ok-keep.was ∙ c.keep.ensures.answer)) c.take_kept.ensures.takes c.take_kept.ensures.begins)

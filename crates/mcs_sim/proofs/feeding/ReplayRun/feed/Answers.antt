@@ -19,7 +19,7 @@ returns-in_err-end_line-clause-takes c =
     let reached = c.loop-i.invariant.reached in
     let found = c.in-Some-memchr.ensures in
     let cut = line-cut c.loop-i.rest.now c.in-Some-memchr.i found.0.high found.1 in
-    let stopped = takes-stopped c.end_line.new.self c.in_err-end_line.field-0.0 (drop (c.in-Some-memchr.i + 1) c.loop-i.rest.now) (answer-err _ _ (sym c.in_err-end_line.was ∙ c.end_line.ensures.told)) in
+    let stopped = takes-stopped c.end_line.new.self c.in_err-end_line.field-0.0 (drop (c.in-Some-memchr.i + 1) c.loop-i.rest.now) (answer-err _ _ (sym c.in_err-end_line.was ∙ c.end_line.ensures.answer)) in
     takes-split c.args.self.now c.loop-i.self c.end_line.new.self c.args.piece.now reached.0 c.loop-i.rest.now reached.1 reached.2
     (takes-split c.loop-i.self c.end_line.new.self c.end_line.new.self c.loop-i.rest.now (take c.in-Some-memchr.i c.loop-i.rest.now ++ 10 ∷ []) (drop (c.in-Some-memchr.i + 1) c.loop-i.rest.now) cut c.end_line.ensures.takes stopped)
 
@@ -32,7 +32,7 @@ loop-i-preserved c =
     let split = reached.1 ∙ ap (λ (l : List ℕ). reached.0 ++ l) cut ∙ sym (append_assoc reached.0 line (drop (c.in-Some-memchr.i + 1) c.loop-i.rest.now))
     ∙ ap (λ (l : List ℕ). (reached.0 ++ line) ++ l) (sym (take_rest c.loop-i.rest.now (c.in-Some-memchr.i + 1))) in
     record {
-      goes = answer-ok _ _ (sym c.in_ok-end_line.was ∙ c.end_line.ensures.told);
+      goes = answer-ok _ _ (sym c.in_ok-end_line.was ∙ c.end_line.ensures.answer);
       reached = (reached.0 ++ line, split, takes-append c.args.self.now c.loop-i.self c.end_line.new.self reached.0 line reached.2 c.end_line.ensures.takes);
     }
 

@@ -15,21 +15,21 @@ whole g c =
 
 pub put_more-requires : goal.put_more-requires
 put_more-requires g c =
-    record { told = (c.self.inside.run.course.stands.book, c.self.invariant, takes-longer c.self.inside.run (c.args.part.now ++ 10 ∷ []) c.end_line-taken.new.self c.end_line-taken.ensures.takes) }
+    record { written = (c.self.inside.run.course.stands.book, c.self.invariant, takes-longer c.self.inside.run (c.args.part.now ++ 10 ∷ []) c.end_line-taken.new.self c.end_line-taken.ensures.takes) }
 
 pub returns-then-is_amid-clause-puts : goal.returns-then-is_amid-clause-puts
 returns-then-is_amid-clause-puts g c =
-    tells-longer g.W.Write.contents c.self.inside.told c.self.inside.run c.args.self.now c.end_line-taken.new.self c.args.to.now c.put_more.new.to c.self.view_is c.self.invariant
+    tells-longer g.W.Write.contents c.self.inside.written c.self.inside.run c.args.self.now c.end_line-taken.new.self c.args.to.now c.put_more.new.to c.self.view_is c.self.invariant
     (takes-longer c.self.inside.run (c.args.part.now ++ 10 ∷ []) c.end_line-taken.new.self c.end_line-taken.ensures.takes) c.put_more.ensures.puts
 
-pub put_line-requires-clause-told : goal.put_line-requires-clause-told
-put_line-requires-clause-told g c =
+pub put_line-requires-clause-written : goal.put_line-requires-clause-written
+put_line-requires-clause-written g c =
     let run = c.self.inside.run in
-    (run.course.stands.book, c.self.invariant, takes-longer run (c.args.part.now ++ 10 ∷ []) c.take_line-taken.new.self (whole g (goal.at.put_line-requires-clause-told g c).After-take_line-taken))
+    (run.course.stands.book, c.self.invariant, takes-longer run (c.args.part.now ++ 10 ∷ []) c.take_line-taken.new.self (whole g (goal.at.put_line-requires-clause-written g c).After-take_line-taken))
 
 pub put_line-requires-clause-text : goal.put_line-requires-clause-text
 put_line-requires-clause-text g c =
-    line-read c.self.inside.run.course c.take_line-taken.new.self.course c.args.part.now c.self.inside.told c.take_line-taken.ensures.takes c.self.invariant
+    line-read c.self.inside.run.course c.take_line-taken.new.self.course c.args.part.now c.self.inside.written c.take_line-taken.ensures.takes c.self.invariant
 
 pub returns-clause-takes : goal.returns-clause-takes
 returns-clause-takes g c =
@@ -38,5 +38,5 @@ returns-clause-takes g c =
 pub returns-clause-puts : goal.returns-clause-puts
 returns-clause-puts g c =
     let run = c.self.inside.run in
-    tells-longer g.W.Write.contents c.self.inside.told run c.args.self.now c.take_line-taken.new.self c.args.to.now c.put_line.new.to c.self.view_is c.self.invariant
+    tells-longer g.W.Write.contents c.self.inside.written run c.args.self.now c.take_line-taken.new.self c.args.to.now c.put_line.new.to c.self.view_is c.self.invariant
     (takes-longer run (c.args.part.now ++ 10 ∷ []) c.take_line-taken.new.self (whole g (goal.at.returns-clause-puts g c).After-take_line-taken)) c.put_line.ensures.puts

@@ -1,7 +1,7 @@
 use Rattle.std.proofs.Common.{◌≡◌, ◌+◌, ◌-◌, ◌++◌, length, take, ap, ◌∙◌, arith, length-append}
 use Rattle.std.proofs.lemmas.List.{take_all}
 use Rattle.mcs_trace.specs.declared.line.TheConstants.{PART}
-use Rattle.mcs_trace.proofs.Parts.{part-behind}
+use Rattle.mcs_trace.proofs.Parts.{part-after}
 use Rattle.mcs_trace.proofs.line.Line.many_bytes.Goals as goal
 
 pub loop-at-preserved : goal.loop-at-preserved
@@ -9,7 +9,7 @@ loop-at-preserved c =
     let l = c.loop-at in
     let front = c.self.inside.end in
     record {
-      copied = part-behind c.self.inside.bytes l.self-inside.bytes c.part.new.buffer c.args.bytes.now front l.at l.at PART _
+      copied = part-after c.self.inside.bytes l.self-inside.bytes c.part.new.buffer c.args.bytes.now front l.at l.at PART _
           (omega arith) (omega arith) l.invariant.copied c.part.ensures (omega arith);
       long = omega arith;
       within = omega arith;
@@ -21,7 +21,7 @@ returns c =
     let front = c.self.inside.end in
     let text = c.args.bytes.now in
     let stored : take (front + length text) c.part-2.new.buffer ≡ take front c.self.inside.bytes ++ take (length text) text =
-    part-behind c.self.inside.bytes l.self-inside.bytes c.part-2.new.buffer text front l.at (length text - PART) PART (length text)
+    part-after c.self.inside.bytes l.self-inside.bytes c.part-2.new.buffer text front l.at (length text - PART) PART (length text)
     (omega arith) (omega arith) l.invariant.copied c.part-2.ensures (omega arith) in
     let added : take (front + length text) c.part-2.new.buffer ≡ c.args.self.now ++ text =
     stored ∙ ap (λ x. x ++ take (length text) text) c.self.view_is ∙ ap (λ x. c.args.self.now ++ x) (take_all (length text) text (omega arith)) in

@@ -6,7 +6,7 @@ use Rattle.mcs_types.specs.declared.entry.Entry.{Entry}
 use Rattle.mcs_types.specs.Ids.{same}
 use Rattle.mcs_turns.specs.Turns.{User}
 use Rattle.mcs_users.specs.Users.{begun_with}
-use Rattle.mcs_users.proofs.Adding.{user-at, added-within, added-before, added-behind}
+use Rattle.mcs_users.proofs.Adding.{user-at, added-within, added-before, added-after}
 use Rattle.mcs_users.proofs.lists.Lists.add.Goals as goal
 
 pub returns-in_default-clause-added : goal.returns-in_default-clause-added
@@ -16,7 +16,7 @@ returns-in_default-clause-added c =
     let many = ap (λ (l : List User). length l) view in
     let long : c.len-end.result ≡ length us = omega (arith, c.len-end.ensures, c.self.inside.lists.ok.0, many) in
     let none = sym c.place_for.ensures ∙ c.in_default.is in
-    on_ok_weaker c.insert_at.result (λ added. added ∙ added-behind us c.args.thread c.args.entry c.len-end.result long none) c.insert_at.ensures.added
+    on_ok_weaker c.insert_at.result (λ added. added ∙ added-after us c.args.thread c.args.entry c.len-end.result long none) c.insert_at.ensures.added
 
 pub returns-then-is_at-clause-added : goal.returns-then-is_at-clause-added
 returns-then-is_at-clause-added c =

@@ -1,7 +1,0 @@
-use Rattle.std.specs.Prelude.{reverse}
-use Rattle.mcs_seats.specs.Settling.{notes_of}
-use Rattle.mcs_seats.proofs.Told.{told-notes}
-use Rattle.mcs_seats.proofs.laws.told_lines.Goals as goal
-
-pub returns : goal.returns
-returns g c = let b = g.it.book in let s = g.it.seat in told-notes b s.core (notes_of b s.core) 1 (reverse s.calls) g.it.agrees
