@@ -1,4 +1,4 @@
--- What the answer of a check, where it is borne out, or a fault says of a script.
+-- What the answer of a check, if it is confirmed, or a fault means for a script.
 use Rattle.std.specs.Prelude.{◌≡◌, ◌≤◌, ℕ, Bool, true, false, List, Result, Ok, Err}
 use Rattle.std.specs.Result.{IfOk}
 use Rattle.std.proofs.Common.{inl, inr, ap, sym, ◌∙◌, arith}
@@ -21,7 +21,7 @@ lab-above fault.Write = omega arith
 lab-above fault.BookFull = omega arith
 lab-above fault.OutOfMemory = omega arith
 
--- an answer that is what the definition says
+-- an answer that agrees with the definition
 pub checked_met : (script : List ℕ) (met : Bool) (e : Ending) → e ≡ check_ending (Ok met) → met ≡ holds_throughout script → IsChecked script e
 checked_met script true e is so = record {
   answer = Ok true;

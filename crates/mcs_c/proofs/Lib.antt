@@ -5,3 +5,4 @@ mod Planned
 mod Answered
 mod Picked
 mod Stepped
+mod Encoded

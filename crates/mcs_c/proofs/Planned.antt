@@ -1,12 +1,12 @@
--- What was told of the script of a plan is what is told of the plan.
+-- What was reported of the script of a plan is what is reported of the plan.
 use Rattle.std.specs.Prelude.{ℕ, List}
 use Rattle.std.proofs.Common.{inr}
 use Rattle.mcs_plan_words.specs.Alignment.{HasLinesOf}
 use Rattle.mcs_plan_words.specs.Scripts.{IsScriptOfPlan}
 use Rattle.mcs_c.specs.declared.handing.Ending.{Ending}
-use Rattle.mcs_c.specs.Checks.{IsChecked, IsTold}
+use Rattle.mcs_c.specs.Checks.{IsChecked, IsReported}
 use Rattle.mcs_c.specs.Explores.{IsExplored}
-use Rattle.mcs_c.specs.Plans.{IsInPlan, IsPlanChecked, IsPlanExplored, IsPlanTold}
+use Rattle.mcs_c.specs.Plans.{IsInPlan, IsPlanChecked, IsPlanExplored, IsPlanReported}
 
 pub script_checked : (script : List ℕ) (ending e : Ending) → IsScriptOfPlan script → IsChecked script ending → IsInPlan ending e → IsPlanChecked e
 script_checked script ending e of_plan checked in_plan = inr (record {
@@ -17,10 +17,10 @@ script_checked script ending e of_plan checked in_plan = inr (record {
   in_plan = in_plan;
 })
 
-pub script_told : (ending e : Ending) → IsTold ending → IsInPlan ending e → IsPlanTold e
-script_told ending e told in_plan = inr (record {
+pub script_reported : (ending e : Ending) → IsReported ending → IsInPlan ending e → IsPlanReported e
+script_reported ending e reported in_plan = inr (record {
   ending = ending;
-  told = told;
+  reported = reported;
   in_plan = in_plan;
 })
 

@@ -1,11 +1,11 @@
--- What a run that takes a piece tells, and what is handed out of it.
+-- What a run that takes a piece reports, and what is written to the caller of it.
 use Rattle.std.proofs.Common.{◌≡◌, inl, inr, ℕ, eqb, length, Bool, true, false, Option, Some, None, Result, Ok, Err, List, [], ◌∷◌, ◌++◌, refl, sym, ap, subst, ◌∙◌, append_assoc}
 use Rattle.std.specs.Io.KnownBytes.{Appends}
 use Rattle.mcs_trace.specs.declared.sink.Sink.{Sink}
 use Rattle.mcs_trace.specs.Output.{kept}
 use Rattle.mcs_phases.specs.declared.fault.SimFault.{SimFault}
 use Rattle.mcs_phases.specs.declared.fault.SimFault.TheVariants as fault
-use Rattle.mcs_phases.specs.Going.{Going, Course, IsFairBook, TakesPiece, answer_of, at_line, ended, ended_by, fed, no_line}
+use Rattle.mcs_phases.specs.Going.{Going, Course, IsFairBook, Takes, TakesPiece, answer_of, at_line, ended, ended_by, fed, no_line}
 use Rattle.mcs_sim.specs.Trace.{trace_of}
 use Rattle.mcs_sim.specs.Runs.{TellsMore, answer_with}
 use Rattle.mcs_sim.proofs.SimulateLaws.{appends-out}
@@ -25,6 +25,11 @@ took g [] h r (inl e) answers well = e
 took g [] h r (inr (n, e)) answers well = absurd (not-refused h g.course r e answers well)
 took g (b ∷ bs) h r (inl e) answers well = e
 took g (b ∷ bs) h r (inr refused) answers well = absurd (not-refused h (fed g refused.before).course r refused.stopped answers well)
+
+-- bytes were taken, where memory was not refused
+pub fed_took : (g : Going) (bytes : List ℕ) (h : Going) (r : Result (Unit {0}) SimFault) → Takes g bytes h → r ≡ answer_of h.course.fault → is_refused r ≡ false → h ≡ fed g bytes
+fed_took g bytes h r (inl e) answers well = e
+fed_took g bytes h r (inr refused) answers well = absurd (not-refused h (fed g refused.before).course r refused.stopped answers well)
 
 -- what `take_piece` leaves, where its sink did not break and memory was there
 pub tells : {W : Type 0} (f : W → Option (List ℕ)) (g h : Going) (piece : List ℕ) (s t : Sink W) (text text' : List ℕ) (r : Result (Unit {0}) SimFault)
@@ -50,7 +55,7 @@ tells f g h piece s t text text' r from empty takes more sent whole to answers w
 pub replayed : (script : List ℕ) (b : ℕ) (bs : List ℕ) (g h i : Going) (text text' : List ℕ) (first second : Result (Unit {0}) SimFault)
     → script ≡ b ∷ bs → g ≡ at_line no_line → Tells g script h [] text first → Tells h [] i text text' second → IsReplay script text' second
 replayed script b bs g h i text text' first second some begins one two = record {
-  is = told ∙ ap (λ (c : Course). trace_of c.stands.book) course;
+  is = output ∙ ap (λ (c : Course). trace_of c.stands.book) course;
   answers = two.answers ∙ ap (λ (c : Course). answer_of c.fault) course;
   fair = subst (λ (c : Course). IsFairBook c.stands.book) course two.fair;
 }
@@ -64,8 +69,8 @@ replayed script b bs g h i text text' first second some begins one two = record 
     none : trace_so_far g ≡ []
     none = ap trace_so_far begins
 
-    told : text' ≡ trace_of i.course.stands.book
-    told = two.adds.grown ∙ ap (λ (l : List ℕ). l ++ two.adds.more) (one.adds.grown ∙ sym (one.adds.adds ∙ ap (λ (l : List ℕ). l ++ one.adds.more) none)) ∙ sym two.adds.adds
+    output : text' ≡ trace_of i.course.stands.book
+    output = two.adds.grown ∙ ap (λ (l : List ℕ). l ++ two.adds.more) (one.adds.grown ∙ sym (one.adds.adds ∙ ap (λ (l : List ℕ). l ++ one.adds.more) none)) ∙ sym two.adds.adds
 
 -- the end of an empty script was taken
 pub replayed_empty : (script : List ℕ) (g h : Going) (text : List ℕ) (r : Result (Unit {0}) SimFault) → script ≡ [] → g ≡ at_line no_line → Tells g [] h [] text r → IsReplay script text r

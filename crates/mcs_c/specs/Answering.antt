@@ -1,4 +1,4 @@
--- What a step brought, as C has it.
+-- What a step returned, as C has it.
 use Rattle.std.specs.Prelude.{◌≡◌, ℕ, List, [], ◌++◌, length, drop, map, take, Option, Some, None, nat_lt, if◌then◌else◌}
 use Rattle.mcs_types.specs.declared.id.ObjId.{ObjId}
 use Rattle.mcs_types.specs.declared.entry.Answer.{Answer}
@@ -71,7 +71,7 @@ record_of (rec.Tied t n) = about 16 (Some t) n
 record_of (rec.Made o form) = about 17 None (Some o)
 record_of (rec.Closed o) = about 18 None (Some o)
 
--- an answer of C says what a line says
+-- an answer in C has the kind and the numbers of a line's answer, and how many records the line has
 pub record IsAnswer (l : Option Line) (a : McsAnswer) : Type 0 where
   pub kind : a.kind ≡ kind_of l
   pub count : a.count ≡ length (numbers_of l)
@@ -89,10 +89,10 @@ newest n None = None
 newest n (Some b) = if nat_lt n (length b.lines) then line_of_number b (length b.lines) else None
 
 -- of these as many were written as there was room for, and what follows them is unchanged
-abbrev pub FillsWith : {A : Type 0} → (told old new : List A) → Type 0
-FillsWith told old new = new ≡ take (length old) told ++ drop (length told) old
+abbrev pub FillsWith : {A : Type 0} → (given old new : List A) → Type 0
+FillsWith given old new = new ≡ take (length old) given ++ drop (length given) old
 
--- what a line, or none, brought
+-- the answer and the records that a line, or no line, returned
 pub record IsBrought (l : Option Line) (b : Brought) : Type 0 where
   pub answer : IsAnswer l b.answer
   pub records : b.records.items ≡ map record_of (records_of l)

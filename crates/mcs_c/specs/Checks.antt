@@ -1,4 +1,4 @@
--- What comes of a script that is checked.
+-- What checking a script returns.
 use Rattle.std.specs.Prelude.{◌≡◌, ◌⊎◌, ℕ, Bool, true, false, List, Option, Some, None, Result, Ok, Err}
 use Rattle.mcs_text.specs.Faults.{fault_number}
 use Rattle.mcs_text.specs.declared.fault.LineFault.{LineFault}
@@ -50,7 +50,7 @@ pub record Checks (script : List ℕ) (status : ℕ) (old new : List ℕ) (end :
   pub is : IsChecked script ending
 
 -- a call ends so by some answer, and memory was not refused
-pub record IsTold (e : Ending) : Type 0 where
+pub record IsReported (e : Ending) : Type 0 where
   pub answer : Result Bool LabFault
   pub is : e ≡ check_ending answer
   pub granted : e.status ≡ 6 → ⊥
@@ -62,4 +62,4 @@ pub record Tells (status : ℕ) (old new : List ℕ) (end : McsEnd) : Type 0 whe
   pub ending : Ending
   pub wrote : HandsOut text old new end.length
   pub ends : Ends ending status end
-  pub is : IsTold ending
+  pub is : IsReported ending

@@ -1,9 +1,9 @@
--- What comes of a plan.
+-- What compiling a plan returns.
 use Rattle.std.specs.Prelude.{◌≡◌, ◌⊎◌, ℕ, List}
 use Rattle.mcs_types.specs.declared.boot.BootFault.TheVariants as boot_fault
 use Rattle.mcs_phases.specs.declared.fault.SimFault.TheVariants as sim_fault
-use Rattle.mcs_plan_source.specs.declared.fault.Why.{Why}
-use Rattle.mcs_plan_source.specs.declared.fault.Why.TheVariants as why
+use Rattle.mcs_plan_source.specs.declared.fault.PlanError.{PlanError}
+use Rattle.mcs_plan_source.specs.declared.fault.PlanError.TheVariants as why
 use Rattle.mcs_plan_source.specs.declared.fault.PlanFault.{PlanFault}
 use Rattle.mcs_plan_validate.specs.declared.fault.CompileFault.{CompileFault}
 use Rattle.mcs_plan_validate.specs.declared.fault.CompileFault.TheVariants as fault
@@ -13,14 +13,14 @@ use Rattle.mcs_c.specs.declared.handing.McsEnd.{McsEnd}
 use Rattle.mcs_c.specs.Handing.{Ends, HandsOut, at_line, with_status}
 
 -- how a call ends by a line of a plan that is refused, or by memory
-abbrev pub why_ending : ℕ → Why → Ending
+abbrev pub why_ending : ℕ → PlanError → Ending
 why_ending line why.OutOfMemory = with_status 6
 why_ending line w = at_line line 13
 
 abbrev pub plan_ending : PlanFault → Ending
 plan_ending f = why_ending f.line f.why
 
--- how a call ends where no script comes of a plan
+-- how a call ends if a plan does not compile
 abbrev pub compile_ending : CompileFault → Ending
 compile_ending (fault.Plan f) = plan_ending f
 compile_ending (fault.Script sim_fault.OutOfMemory) = with_status 6

@@ -1,5 +1,5 @@
--- The step that an entry of C says: its key is the number of a form, and its words are the numbers
--- that the form has after the key, in their order.
+-- The step that an entry of C encodes: its key is the number of a form, and its words are the
+-- numbers that the form has after the key, in their order.
 use Rattle.std.specs.Prelude.{◌≡◌, ℕ, ◌+◌, ◌^◌, Bool, ◌&&◌, List, [], ◌∷◌, ◌++◌, length, take, drop, slice_get, slice_index, ◌-◌, Option, Some, None, Result, Ok, Err, nat_lt, nat_le, ◌==◌, if◌then◌else◌}
 use Rattle.mcs_types.specs.Limits.{core_limit, object_limit, word_limit, label_bits}
 use Rattle.mcs_types.specs.Views.{Content}
@@ -40,7 +40,7 @@ least n ns said = if nat_le n (length ns) then said else Err Form
 abbrev pub fits_message : ℕ → List ℕ → Bool
 fits_message label words = nat_lt label (2 ^ label_bits) && nat_le (length words) word_limit
 
--- what numbers say whose last are a label, which is this one of them, and words
+-- what numbers encode whose last are a label, at this place, and the words after it
 abbrev pub with_message : ℕ → List ℕ → (Content → Entry) → Result Entry EntryFault
 with_message i ns entry = least (i + 1) ns (ranged (fits_message (slice_index ns i) (drop (i + 1) ns)) (entry (record { label = slice_index ns i; words = drop (i + 1) ns })))
 
@@ -137,7 +137,7 @@ abbrev pub entry_of : Option Shape → McsEntry → Result Entry EntryFault
 entry_of None e = Err Form
 entry_of (Some shape) e = if nat_le e.count (length e.words) then entry_said shape (numbers_of e) else Err Form
 
--- whether it is a core that a machine may have, and a thread that a boot may make
+-- whether its core is one that a machine may have, and its thread one that a boot may make
 abbrev pub fits_entrant : McsEntry → Bool
 fits_entrant e = nat_lt e.core core_limit && (nat_le 1 e.thread && nat_le e.thread object_limit)
 
@@ -150,20 +150,21 @@ abbrev pub step_with : Entrant → Result Entry EntryFault → Result Step Entry
 step_with from (Ok entry) = Ok (step_by from entry)
 step_with from (Err f) = Err f
 
--- the step that an entry says: tested first are its core and thread, then its form and its numbers
+-- the step that an entry encodes: its core and thread are tested first, then its form and its
+-- numbers
 unfoldable pub step_said : McsEntry → Result Step EntryFault
 step_said e = if fits_entrant e then step_with (entrant_of e) (entry_of (shape_of e.key) e) else Err Range
 
 -- a line followed by that of a step
-abbrev pub step_behind : List ℕ → Result Step EntryFault → Result (List ℕ) EntryFault
-step_behind line (Ok s) = Ok (line ++ step_text s)
-step_behind line (Err f) = Err f
+abbrev pub step_after : List ℕ → Result Step EntryFault → Result (List ℕ) EntryFault
+step_after line (Ok s) = Ok (line ++ step_text s)
+step_after line (Err f) = Err f
 
 -- a line followed by that of an entry
-abbrev pub behind : List ℕ → Entrant → Result Entry EntryFault → Result (List ℕ) EntryFault
-behind line from said = step_behind line (step_with from said)
+abbrev pub entry_after : List ℕ → Entrant → Result Entry EntryFault → Result (List ℕ) EntryFault
+entry_after line from said = step_after line (step_with from said)
 
--- what a writer returned, seen by view, is what was said
+-- what a writer returned is, through `view`, what the entry encodes
 abbrev pub Gives : {X Y : Type 0} → (X → Y) → Result X EntryFault → Result Y EntryFault → Type 0
 Gives view (Ok x) said = said ≡ Ok (view x)
 Gives view (Err f) said = said ≡ Err f

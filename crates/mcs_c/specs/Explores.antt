@@ -1,4 +1,4 @@
--- What comes of all orders of a script of users.
+-- What exploring all orders of a script of users returns.
 use Rattle.std.specs.Prelude.{◌≡◌, ℕ, false, List, [], Option, Some, Result, Ok, Err}
 use Rattle.mcs_explore_questions.specs.declared.fault.ExploreFault.{ExploreFault}
 use Rattle.mcs_explore_questions.specs.declared.fault.ExploreFault.TheVariants as fault

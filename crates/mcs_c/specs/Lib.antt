@@ -1,6 +1,7 @@
 pub mod Answering
 pub mod Checks
 pub mod Compiles
+pub mod Encoding
 pub mod Entering
 pub mod Explores
 pub mod Handing

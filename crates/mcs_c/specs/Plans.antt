@@ -1,10 +1,10 @@
--- What comes of a plan that is checked, explained, shown, drawn or explored.
+-- What checking, explaining, showing, drawing or exploring a plan returns.
 use Rattle.std.specs.Prelude.{◌≡◌, ◌⊎◌, ℕ, List}
 use Rattle.mcs_plan_words.specs.Alignment.{HasLinesOf}
 use Rattle.mcs_plan_words.specs.Scripts.{IsScriptOfPlan}
 use Rattle.mcs_c.specs.declared.handing.Ending.{Ending}
 use Rattle.mcs_c.specs.declared.handing.McsEnd.{McsEnd}
-use Rattle.mcs_c.specs.Checks.{IsChecked, IsTold}
+use Rattle.mcs_c.specs.Checks.{IsChecked, IsReported}
 use Rattle.mcs_c.specs.Compiles.{IsPlanRefused}
 use Rattle.mcs_c.specs.Explores.{IsExplored}
 use Rattle.mcs_c.specs.Handing.{Ends, HandsOut}
@@ -47,14 +47,14 @@ pub record ChecksPlan (status : ℕ) (old new : List ℕ) (end : McsEnd) : Type 
   pub is : IsPlanChecked ending
 
 -- the script of a plan was explained, shown or drawn
-pub record IsScriptTold (e : Ending) : Type 0 where
+pub record IsScriptReported (e : Ending) : Type 0 where
   pub ending : Ending
-  pub told : IsTold ending
+  pub reported : IsReported ending
   pub in_plan : IsInPlan ending e
 
 -- a call ends so that explains, shows or draws a plan
-abbrev pub IsPlanTold : Ending → Type 0
-IsPlanTold e = IsUnread e ⊎ IsScriptTold e
+abbrev pub IsPlanReported : Ending → Type 0
+IsPlanReported e = IsUnread e ⊎ IsScriptReported e
 
 -- what a call leaves that explains, shows or draws a plan: of a text as much as there is room for,
 -- with how it was answered
@@ -63,7 +63,7 @@ pub record TellsPlan (status : ℕ) (old new : List ℕ) (end : McsEnd) : Type 0
   pub ending : Ending
   pub wrote : HandsOut text old new end.length
   pub ends : Ends ending status end
-  pub is : IsPlanTold ending
+  pub is : IsPlanReported ending
 
 -- the script of a plan was explored, with the same lines: its questions in their order, and its
 -- other lines in theirs

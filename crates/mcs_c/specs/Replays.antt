@@ -1,4 +1,4 @@
--- What comes of a script, and of a line more.
+-- What replaying a script returns, and taking one more line.
 use Rattle.std.specs.Prelude.{◌≡◌, ℕ, Bool, true, false, List, [], ◌∷◌, ◌++◌, Result, Ok, Err}
 use Rattle.mcs_text.specs.Faults.{fault_number}
 use Rattle.mcs_phases.specs.declared.fault.SimFault.{SimFault}
@@ -76,7 +76,7 @@ abbrev pub why_of : Result (Unit {0}) SimFault → ℕ
 why_of (Err (fault.Script line why)) = fault_number why
 why_of r = 0
 
--- how a call tells the answer of a replay
+-- how a call reports the answer of a replay
 pub record IsEnd (answer : Result (Unit {0}) SimFault) (status : ℕ) (end : McsEnd) : Type 0 where
   pub answered : status ≡ status_of answer
   pub line : end.line ≡ line_of answer

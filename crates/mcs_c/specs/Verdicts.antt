@@ -3,17 +3,17 @@ use Rattle.std.specs.Prelude.{ℕ, Bool, true, false, List, [], ◌∷◌, ◌++
 use Rattle.std.specs.List.{list_all}
 use Rattle.mcs_text.specs.Reading.{lines_of}
 use Rattle.mcs_lab_check.specs.Checked.{unread, verdicts}
-use Rattle.mcs_lab_check.specs.declared.last.Told.{Told}
-use Rattle.mcs_lab_check.specs.declared.last.Told.TheVariants as told
+use Rattle.mcs_lab_check.specs.declared.last.LineResult.{LineResult}
+use Rattle.mcs_lab_check.specs.declared.last.LineResult.TheVariants as line_result
 
 -- a line holds; so it does where it wants nothing
-abbrev pub is_met : Told → Bool
-is_met told.Nothing = true
-is_met told.Step = true
-is_met (told.Answer holds) = holds
-is_met (told.Record holds) = holds
-is_met (told.Asked holds) = holds
-is_met told.NoQuestion = false
+abbrev pub is_met : LineResult → Bool
+is_met line_result.Nothing = true
+is_met line_result.Step = true
+is_met (line_result.Answer holds) = holds
+is_met (line_result.Record holds) = holds
+is_met (line_result.Asked holds) = holds
+is_met line_result.NoQuestion = false
 
 -- a line with its newline, which the last of a text may lack
 abbrev pub whole_line : List ℕ → List ℕ

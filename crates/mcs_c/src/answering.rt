@@ -20,7 +20,7 @@ pub struct McsAnswer {
     pub kind: u32,
     /// How many of the words count.
     pub count: u32,
-    /// How many records the step brought.
+    /// How many records the step made.
     pub records: usize,
     /// The numbers of the answer, as its form has them.
     pub words: [u64; ANSWER_WORDS],
@@ -30,7 +30,7 @@ pub struct McsAnswer {
 #[repr(C)]
 #[derive(Clone, Copy, Drop)]
 pub struct McsRecord {
-    /// Which record it is, from 1 on.
+    /// The number of the kind of the record, from 1 on.
     pub kind: u32,
     /// The serial of its thread; 0 if it has none.
     pub thread: u32,
@@ -129,7 +129,7 @@ fn push(records: &mut Vec<McsRecord>, fact: McsRecord) -> Result<(), OutOfMemory
 }
 
 /// Returns the records of a line.
-#[tactic(auto, using(crate::proofs::Answered::told_next, crate::proofs::Answered::none_within))]
+#[tactic(auto, using(crate::proofs::Answered::mapped_next, crate::proofs::Answered::none_within))]
 fn records_of(alloc: Global, line: &Line<'_>) -> Result<Vec<McsRecord>, OutOfMemory>
     ensures { IfOk result (λ v. v.items ≡ map record_of line.now.records) }
 {
@@ -207,7 +207,7 @@ pub struct Brought {
     pub records: Vec<McsRecord>,
 }
 
-/// Returns what a step brought that added no line.
+/// Returns the answer and the records of a step that added no line: there are none.
 pub fn nothing(alloc: Global) -> Brought
     ensures { IsBrought None result }
 {
@@ -222,8 +222,8 @@ pub fn nothing(alloc: Global) -> Brought
     }
 }
 
-/// Returns what a line brought.
-fn told_by(alloc: Global, line: &Line<'_>) -> Result<Brought, OutOfMemory>
+/// Returns the answer and the records of a line.
+fn brought_by(alloc: Global, line: &Line<'_>) -> Result<Brought, OutOfMemory>
     ensures { IfOk result (λ b. IsBrought (Some line.now) b) }
 {
     Ok(Brought {
@@ -243,13 +243,13 @@ fn newest(book: &Book, before: usize) -> Option<Line<'_>>
     book.line(lines)
 }
 
-/// Returns what a step brought, before which the book had so many lines.
+/// Returns the answer and the records of a step. `before` is the number of lines before it.
 pub fn added_to(alloc: Global, book: &Book, before: usize) -> Result<Brought, OutOfMemory>
     ensures { IfOk result (λ b. IsBrought (newest before (Some book.now.book)) b) }
 {
     match newest(book, before) {
         None => Ok(nothing(alloc)),
-        Some(line) => told_by(alloc, &line),
+        Some(line) => brought_by(alloc, &line),
     }
 }
 

@@ -5,7 +5,7 @@ ghost use Rattle.mcs_c.specs.Compiles.{Compiles, IsCompiled, IsNumbered, IsPlanR
 ghost use Rattle.mcs_plan_words.specs.Scripts.{IsScriptOfPlan};
 
 use crate::handing::{Ending, Handed, McsEnd, NO_MEMORY, WRONG};
-use mcs_plan_source::{PlanFault, Why};
+use mcs_plan_source::{PlanError, PlanFault};
 use mcs_plan_validate::{CompileFault, Compiled, Loaded, load};
 use mcs_plan_words::reason_line;
 use mcs_sim::SimFault;
@@ -21,7 +21,7 @@ fn plan_ending(fault: &PlanFault) -> Ending
     ensures { result ≡ plan_ending fault.now }
 {
     match fault.why {
-        Why::OutOfMemory => Ending::of_status(NO_MEMORY),
+        PlanError::OutOfMemory => Ending::of_status(NO_MEMORY),
         _ => Ending::of_line(fault.line, PLAN_LINE),
     }
 }
@@ -70,7 +70,7 @@ pub(crate) fn refuse_with(
     Ok(Handed { text, ending })
 }
 
-/// Returns a line that says why no script comes of a plan, with how the call ends.
+/// Returns a line that says why a plan does not compile, with how the call ends.
 pub(crate) fn refuse(
     alloc: Global,
     plan: &[u8],

@@ -3,7 +3,7 @@ ghost use Rattle.std.specs.Prelude.{◌≡◌, ◌≤◌, ◌+◌, length, nat_l
 ghost use Rattle.mcs_types.specs.declared.entry.Entry.TheVariants as entry;
 ghost use Rattle.mcs_packing.specs.Entries.{place_of};
 ghost use Rattle.mcs_trace.specs.Room.{HasRoom};
-ghost use Rattle.mcs_c.specs.Entering.{Gives, addressed, behind, copied, entrant_of, entry_said, exchanged, fits_entrant, fits_message, is_byte, minted, moved, paired, placed, prioritized, ranged, replied, sent, shape_in, shape_of, step_behind, step_said};
+ghost use Rattle.mcs_c.specs.Entering.{Gives, addressed, entry_after, copied, entrant_of, entry_said, exchanged, fits_entrant, fits_message, is_byte, minted, moved, paired, placed, prioritized, ranged, replied, sent, shape_in, shape_of, step_after, step_said};
 
 use mcs_packing::{OverAddress, OverPair, OverPlace, Sending};
 use mcs_text::{Entrant, Key};
@@ -12,7 +12,7 @@ use mcs_types::{
     Badge, CORES, CoreId, Kind, LABEL_BITS, MESSAGE_WORDS, OBJECTS, ObjId, Place, Prio, Rights,
 };
 
-/// Why an entry says no step.
+/// Why an entry encodes no step.
 #[derive(Clone, Copy)]
 pub enum EntryFault {
     /// No form has this key and so many words.
@@ -21,7 +21,7 @@ pub enum EntryFault {
     Range,
 }
 
-/// The shapes of entries, with what tells entries of one shape apart.
+/// The shapes of entries, with what distinguishes entries of one shape.
 #[derive(Clone, Copy)]
 pub enum Shape {
     Sends(Sending),
@@ -37,7 +37,7 @@ pub enum Shape {
     MoveCap,
 }
 
-/// How many words an entry may have: three addresses, a label and the words of a message.
+/// How many words an entry may have: up to three addresses, a label, and the words of a message.
 pub const ENTRY_WORDS: usize = 4 + MESSAGE_WORDS;
 
 /// An entry of a thread on a core, as C has it (`mcs_entry` of `mcs.h`).
@@ -148,7 +148,8 @@ fn write_sent(
     numbers: &[u64],
 ) -> Result<(), EntryFault>
     requires room { HasRoom line.old LINE }
-    ensures writes { Gives (λ u. line.new) result (behind line.old from (sent form numbers.now)) }
+    ensures writes { Gives (λ u. line.new) result
+        (entry_after line.old from (sent form numbers.now)) }
     ensures unchanged { OnErr result (line.new ≡ line.old) }
 {
     let [cap, label, words @ ..] = numbers else {
@@ -169,7 +170,7 @@ fn write_sent(
 fn write_replied(line: &mut Line, from: Entrant, numbers: &[u64]) -> Result<(), EntryFault>
     requires room { HasRoom line.old LINE }
     ensures writes { Gives (λ u. line.new) result
-        (behind line.old from (replied entry.ReplyRecv numbers.now)) }
+        (entry_after line.old from (replied entry.ReplyRecv numbers.now)) }
     ensures unchanged { OnErr result (line.new ≡ line.old) }
 {
     let [cap, reply, label, words @ ..] = numbers else {
@@ -182,11 +183,11 @@ fn write_replied(line: &mut Line, from: Entrant, numbers: &[u64]) -> Result<(), 
     Ok(())
 }
 
-/// Appends the line of NBSendWait.
+/// Appends the line of an entry `NBSendWait`.
 fn write_handed_on(line: &mut Line, from: Entrant, numbers: &[u64]) -> Result<(), EntryFault>
     requires room { HasRoom line.old LINE }
     ensures writes { Gives (λ u. line.new) result
-        (behind line.old from (replied entry.NbSendWait numbers.now)) }
+        (entry_after line.old from (replied entry.NbSendWait numbers.now)) }
     ensures unchanged { OnErr result (line.new ≡ line.old) }
 {
     let [cap, source, label, words @ ..] = numbers else {
@@ -202,7 +203,8 @@ fn write_handed_on(line: &mut Line, from: Entrant, numbers: &[u64]) -> Result<()
 /// Appends the line of NBSendRecv.
 fn write_exchanged(line: &mut Line, from: Entrant, numbers: &[u64]) -> Result<(), EntryFault>
     requires room { HasRoom line.old LINE }
-    ensures writes { Gives (λ u. line.new) result (behind line.old from (exchanged numbers.now)) }
+    ensures writes { Gives (λ u. line.new) result
+        (entry_after line.old from (exchanged numbers.now)) }
     ensures unchanged { OnErr result (line.new ≡ line.old) }
 {
     let [cap, source, reply, label, words @ ..] = numbers else {
@@ -223,7 +225,8 @@ fn write_pair(
     numbers: &[u64],
 ) -> Result<(), EntryFault>
     requires room { HasRoom line.old LINE }
-    ensures writes { Gives (λ u. line.new) result (behind line.old from (paired form numbers.now)) }
+    ensures writes { Gives (λ u. line.new) result
+        (entry_after line.old from (paired form numbers.now)) }
     ensures unchanged { OnErr result (line.new ≡ line.old) }
 {
     let [first, second] = numbers else {
@@ -247,7 +250,7 @@ fn write_address(
 ) -> Result<(), EntryFault>
     requires room { HasRoom line.old LINE }
     ensures writes { Gives (λ u. line.new) result
-        (behind line.old from (addressed form numbers.now)) }
+        (entry_after line.old from (addressed form numbers.now)) }
     ensures unchanged { OnErr result (line.new ≡ line.old) }
 {
     let [address] = numbers else {
@@ -274,7 +277,8 @@ fn write_place(
     numbers: &[u64],
 ) -> Result<(), EntryFault>
     requires room { HasRoom line.old LINE }
-    ensures writes { Gives (λ u. line.new) result (behind line.old from (placed form numbers.now)) }
+    ensures writes { Gives (λ u. line.new) result
+        (entry_after line.old from (placed form numbers.now)) }
     ensures unchanged { OnErr result (line.new ≡ line.old) }
 {
     let [index, depth] = numbers else {
@@ -294,7 +298,8 @@ fn write_place(
 /// Appends the line of SetPriority.
 fn write_priority(line: &mut Line, from: Entrant, numbers: &[u64]) -> Result<(), EntryFault>
     requires room { HasRoom line.old LINE }
-    ensures writes { Gives (λ u. line.new) result (behind line.old from (prioritized numbers.now)) }
+    ensures writes { Gives (λ u. line.new) result
+        (entry_after line.old from (prioritized numbers.now)) }
     ensures unchanged { OnErr result (line.new ≡ line.old) }
 {
     let [thread, authority, priority] = numbers else {
@@ -308,7 +313,7 @@ fn write_priority(line: &mut Line, from: Entrant, numbers: &[u64]) -> Result<(),
 /// Appends the line of MoveCap.
 fn write_move(line: &mut Line, from: Entrant, numbers: &[u64]) -> Result<(), EntryFault>
     requires room { HasRoom line.old LINE }
-    ensures writes { Gives (λ u. line.new) result (behind line.old from (moved numbers.now)) }
+    ensures writes { Gives (λ u. line.new) result (entry_after line.old from (moved numbers.now)) }
     ensures unchanged { OnErr result (line.new ≡ line.old) }
 {
     let [index, depth, to_index, to_depth] = numbers else {
@@ -323,7 +328,7 @@ fn write_move(line: &mut Line, from: Entrant, numbers: &[u64]) -> Result<(), Ent
 /// Appends the line of CopyCap.
 fn write_copy(line: &mut Line, from: Entrant, numbers: &[u64]) -> Result<(), EntryFault>
     requires room { HasRoom line.old LINE }
-    ensures writes { Gives (λ u. line.new) result (behind line.old from (copied numbers.now)) }
+    ensures writes { Gives (λ u. line.new) result (entry_after line.old from (copied numbers.now)) }
     ensures unchanged { OnErr result (line.new ≡ line.old) }
 {
     let [index, depth, to_index, to_depth, bits] = numbers else {
@@ -339,7 +344,7 @@ fn write_copy(line: &mut Line, from: Entrant, numbers: &[u64]) -> Result<(), Ent
 /// Appends the line of MintCap.
 fn write_mint(line: &mut Line, from: Entrant, numbers: &[u64]) -> Result<(), EntryFault>
     requires room { HasRoom line.old LINE }
-    ensures writes { Gives (λ u. line.new) result (behind line.old from (minted numbers.now)) }
+    ensures writes { Gives (λ u. line.new) result (entry_after line.old from (minted numbers.now)) }
     ensures unchanged { OnErr result (line.new ≡ line.old) }
 {
     let [index, depth, to_index, to_depth, bits, badge] = numbers else {
@@ -361,7 +366,7 @@ fn write_shape(
 ) -> Result<(), EntryFault>
     requires room { HasRoom line.old LINE }
     ensures writes { Gives (λ u. line.new) result
-        (behind line.old from (entry_said shape numbers.now)) }
+        (entry_after line.old from (entry_said shape numbers.now)) }
     ensures unchanged { OnErr result (line.new ≡ line.old) }
 {
     match shape {
@@ -395,11 +400,11 @@ fn entrant_of(entry: &McsEntry) -> Result<Entrant, EntryFault>
     })
 }
 
-/// Appends the line of the step that an entry says.
+/// Appends the line of the step that an entry encodes.
 #[tactic(auto, unfolding(crate::specs::Entering::step_said))]
 pub fn write_entry(line: &mut Line, entry: &McsEntry) -> Result<(), EntryFault>
     requires room { HasRoom line.old LINE }
-    ensures writes { Gives (λ u. line.new) result (step_behind line.old (step_said entry.now)) }
+    ensures writes { Gives (λ u. line.new) result (step_after line.old (step_said entry.now)) }
     ensures unchanged { OnErr result (line.new ≡ line.old) }
 {
     let from = entrant_of(entry)?;

@@ -88,8 +88,8 @@ impl Kept {
         }
     }
 
-    /// Adds the scripts behind a report.
-    pub(crate) fn behind(&self, report: Handed) -> Result<Handed, OutOfMemory>
+    /// Adds the scripts after a report.
+    pub(crate) fn add_to(&self, report: Handed) -> Result<Handed, OutOfMemory>
         ensures { IfOk result (λ h. h.ending ≡ report.ending) }
     {
         let Handed { text, ending } = report;
@@ -155,7 +155,7 @@ fn search_text(alloc: Global, script: &[u8], states: u64) -> Result<Handed, OutO
 {
     let mut kept = Kept::new(alloc);
     let report = explore_text(alloc, script, states, &mut kept)?;
-    kept.behind(report)
+    kept.add_to(report)
 }
 
 /// Searches all orders of the users of a script, up to `states` states, and writes as much of the

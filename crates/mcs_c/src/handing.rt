@@ -22,7 +22,7 @@ pub(crate) const NO_MEMORY: u32 = 6;
 /// A status that only a fault of the library could give.
 pub(crate) const WRONG: u32 = 7;
 
-/// Writes as much of a text as there is room for, and returns how many bytes all of it has.
+/// Writes as much of a text as there is room for, and returns how many bytes the whole text has.
 pub(crate) fn hand_out(text: &[u8], out: &mut [u8]) -> usize
     ensures { HandsOut text.now out.old out.new result }
 {

@@ -3,18 +3,19 @@ ghost use Rattle.std.specs.Prelude.{◌≡◌, IfOk};
 ghost use Rattle.mcs_lab_check.specs.Checked.{judged};
 ghost use Rattle.mcs_c.specs.Verdicts.{holds_throughout, is_met, whole_line};
 
-use mcs_lab_check::{Judge, LabFault, Told};
+use mcs_lab_check::{Judge, LabFault, LineResult};
 use mcs_text::Lines;
 use std::alloc::Global;
 
 /// Returns whether a line holds; a line that expects nothing does.
-fn is_met(told: Told) -> bool
-    ensures { result ≡ is_met told }
+fn is_met(line_result: LineResult) -> bool
+    ensures { result ≡ is_met line_result }
 {
-    match told {
-        Told::Nothing | Told::Step => true,
-        Told::Answer { holds } | Told::Record { holds } | Told::Asked { holds } => holds,
-        Told::NoQuestion => false,
+    match line_result {
+        LineResult::Nothing | LineResult::Step => true,
+        LineResult::Answer { holds } | LineResult::Record { holds } | LineResult::Asked { holds } =>
+            holds,
+        LineResult::NoQuestion => false,
     }
 }
 
@@ -26,8 +27,8 @@ fn take(alloc: Global, judge: &mut Judge, line: &[u8]) -> Result<bool, LabFault>
     let mut whole = Vec::new(alloc);
     whole.extend_from_slice(line)?;
     whole.push(b'\n')?;
-    let told = judge.take(alloc, &whole)?;
-    Ok(is_met(told))
+    let line_result = judge.take(alloc, &whole)?;
+    Ok(is_met(line_result))
 }
 
 /// Returns whether all lines of a script hold.

@@ -1,15 +1,47 @@
 //! The thread that a core runs next after a script.
-ghost use Rattle.std.specs.Prelude.{◌≡◌, ◌⊎◌, Some, IfOk};
+ghost use Rattle.std.specs.Prelude.{◌≡◌, ◌⊎◌, Some, IfOk, OnOk};
+ghost use Rattle.mcs_phases.specs.Going.{answer_of};
 ghost use Rattle.mcs_c.specs.Picking.{IsPickOf, IsPickRefused, IsPicked, Picks};
+ghost use Rattle.mcs_c.specs.Replays.{after, going};
 
 use crate::handing::{McsEnd, NO_MEMORY};
 use crate::replaying::ending;
-use crate::stepping::{replay_of, take};
+use crate::telling::is_refused;
 use mcs_kernel::Kernel;
 use mcs_queues::LinkedLines;
-use mcs_sim::SimFault;
+use mcs_sim::{ReplayRun, SimFault};
 use mcs_types::{CoreId, OutOfMemory, ThreadSet};
 use std::alloc::Global;
+
+/// Returns a replay of a script whose end has not come.
+#[tactic(auto, using(crate::proofs::Replayed::fed_took))]
+fn replay_of(alloc: Global, script: &[u8]) -> Result<ReplayRun, OutOfMemory>
+    ensures { IfOk result (λ r. r ≡ going script.now) }
+{
+    let mut run = ReplayRun::new(alloc)?;
+    let ended = run.feed(alloc, script);
+    if is_refused(ended) {
+        return Err(OutOfMemory);
+    }
+    Ok(run)
+}
+
+/// Takes a line, or the end of the input if it is empty, and returns what the replay answers.
+#[tactic(auto, using(crate::proofs::Replayed::took))]
+fn take(
+    alloc: Global,
+    run: &mut ReplayRun,
+    line: &[u8],
+) -> Result<Result<(), SimFault>, OutOfMemory>
+    ensures takes { OnOk result (run.new ≡ after run.old line.now) }
+    ensures answers { IfOk result (λ r. r ≡ answer_of run.new.course.fault) }
+{
+    let ended = run.take_piece(alloc, line);
+    if is_refused(ended) {
+        return Err(OutOfMemory);
+    }
+    Ok(ended)
+}
 
 /// Returns the serial of the thread that a core runs next; 0 if there is none.
 #[tactic(auto, using(crate::proofs::Picked::picked_none, crate::proofs::Picked::picked_some))]

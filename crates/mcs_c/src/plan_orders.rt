@@ -7,7 +7,7 @@ ghost use Rattle.mcs_c.specs.Plans.{ExploresPlan, IsPlanExplored};
 use crate::compiling::refuse;
 use crate::exploring::{Kept, Nowhere, explore_text};
 use crate::handing::{Handed, McsEnd, NO_MEMORY};
-use crate::plan_words::{retold, turned_away};
+use crate::plan_words::{reworded, turned_away};
 use mcs_explore_report::Saves;
 use mcs_plan_words::{Form, Planned};
 use mcs_types::OutOfMemory;
@@ -39,7 +39,7 @@ fn explore_script<S: Saves>(
     let script = planned.asked(alloc)?;
     let report = explore_text(alloc, &script.text, states, saves)?;
     let form = form_of(report.ending.status);
-    retold(alloc, planned, &script, &report, form)
+    reworded(alloc, planned, &script, &report, form)
 }
 
 /// Goes through all orders of a plan, and returns the report, or why there is none, with how the
@@ -58,18 +58,18 @@ fn explore_plan<S: Saves>(
     }
 }
 
-/// Does the same, and returns behind the report the scripts of what it says.
+/// Does the same, and returns after the report the scripts of what it reports.
 fn search_plan(alloc: Global, plan: &[u8], states: u64) -> Result<Handed, OutOfMemory>
     ensures { IfOk result (λ h. IsPlanExplored h.ending) }
 {
     let mut kept = Kept::new(alloc);
     let report = explore_plan(alloc, plan, states, &mut kept)?;
-    kept.behind(report)
+    kept.add_to(report)
 }
 
 /// Goes through all orders of the users of a plan, as far as so many states, and writes as much of
 /// the report as there is room for, in the plan's words and lines. The statuses are those of
-/// `mcs_explore`; 2 also where no script of users comes of the plan, and the text says why.
+/// `mcs_explore`; 2 also if the plan does not compile to a script of users, and the text says why.
 #[unsafe(no_mangle)]
 pub extern "C" fn mcs_explore_plan(
     alloc: Global,
@@ -87,8 +87,8 @@ pub extern "C" fn mcs_explore_plan(
     }
 }
 
-/// Does the same, and writes behind the report the shortest scripts of steps to each kind of end,
-/// to users that are stuck and to what a question asks, each behind a line `== NAME`.
+/// Does the same, and writes after the report the shortest scripts of steps to each kind of end, to
+/// users that are stuck and to what a question asks, each after a line `== NAME`.
 #[unsafe(no_mangle)]
 pub extern "C" fn mcs_search_plan(
     alloc: Global,

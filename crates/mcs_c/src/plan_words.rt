@@ -37,7 +37,7 @@ pub(crate) fn in_plan(ending: Ending, numbers: &[u64]) -> Ending
 
 /// Returns a report of this form on a plan, from the report on its script, and the ending of the
 /// call.
-pub(crate) fn retold(
+pub(crate) fn reworded(
     alloc: Global,
     planned: &Planned<'_>,
     script: &Numbered,

@@ -3,12 +3,12 @@
 ghost use Rattle.std.specs.Prelude.{◌≡◌, ◌⊎◌, IfOk};
 ghost use Rattle.mcs_plan_words.specs.Scripts.{IsScriptOfPlan};
 ghost use Rattle.mcs_c.specs.Handing.{IsRefused};
-ghost use Rattle.mcs_c.specs.Plans.{ChecksPlan, IsPlanChecked, IsPlanTold, TellsPlan};
+ghost use Rattle.mcs_c.specs.Plans.{ChecksPlan, IsPlanChecked, IsPlanReported, TellsPlan};
 
 use crate::checking::check_text;
 use crate::compiling::{refuse, refuse_with};
 use crate::handing::{Handed, McsEnd, NO_MEMORY};
-use crate::plan_words::{in_plan, retold, turned_away};
+use crate::plan_words::{in_plan, reworded, turned_away};
 use crate::showing::{draw_text, state_text, why_text};
 use mcs_lab_render::{Asked, Format};
 use mcs_plan_validate::CompileFault;
@@ -27,7 +27,7 @@ fn check_script(alloc: Global, planned: &Planned<'_>) -> Result<Handed, OutOfMem
     }
     let script = &planned.script;
     let report = check_text(alloc, &script.text)?;
-    retold(alloc, planned, script, &report, Form::Tap)
+    reworded(alloc, planned, script, &report, Form::Tap)
 }
 
 /// Returns the last line of verdicts on a plan of which no script comes, with how the call ends.
@@ -48,22 +48,22 @@ fn check_plan(alloc: Global, plan: &[u8]) -> Result<Handed, OutOfMemory>
     }
 }
 
-/// Explains the script of a plan, and returns what is said, with how the call ends.
-#[tactic(auto, using(crate::proofs::Planned::script_told))]
+/// Explains the script of a plan, and returns the text, with how the call ends.
+#[tactic(auto, using(crate::proofs::Planned::script_reported))]
 fn explain_script(alloc: Global, planned: &Planned<'_>) -> Result<Handed, OutOfMemory>
-    ensures { IfOk result (λ h. IsPlanTold h.ending) }
+    ensures { IfOk result (λ h. IsPlanReported h.ending) }
 {
     if let Some(handed) = turned_away(alloc, planned, false)? {
         return Ok(handed);
     }
     let script = &planned.script;
     let report = why_text(alloc, &script.text)?;
-    retold(alloc, planned, script, &report, Form::Lines)
+    reworded(alloc, planned, script, &report, Form::Lines)
 }
 
-/// Explains a plan, and returns what is said, with how the call ends.
+/// Explains a plan, and returns the text, with how the call ends.
 fn why_plan(alloc: Global, plan: &[u8]) -> Result<Handed, OutOfMemory>
-    ensures { IfOk result (λ h. IsPlanTold h.ending) }
+    ensures { IfOk result (λ h. IsPlanReported h.ending) }
 {
     match Planned::read(alloc, plan) {
         Ok(planned) => explain_script(alloc, &planned),
@@ -71,10 +71,10 @@ fn why_plan(alloc: Global, plan: &[u8]) -> Result<Handed, OutOfMemory>
     }
 }
 
-/// Returns the state behind a line of a plan, or at its end for line 0, with how the call ends.
-#[tactic(auto, using(crate::proofs::Planned::script_told))]
+/// Returns the state after a line of a plan, or at its end for line 0, with how the call ends.
+#[tactic(auto, using(crate::proofs::Planned::script_reported))]
 fn show_script(alloc: Global, planned: &Planned<'_>, line: u64) -> Result<Handed, OutOfMemory>
-    ensures { IfOk result (λ h. IsPlanTold h.ending) }
+    ensures { IfOk result (λ h. IsPlanReported h.ending) }
 {
     if let Some(handed) = turned_away(alloc, planned, false)? {
         return Ok(handed);
@@ -90,9 +90,9 @@ fn show_script(alloc: Global, planned: &Planned<'_>, line: u64) -> Result<Handed
     Ok(Handed { text, ending })
 }
 
-/// Returns the state behind a line of a plan, or at its end for line 0, with how the call ends.
+/// Returns the state after a line of a plan, or at its end for line 0, with how the call ends.
 fn state_plan(alloc: Global, plan: &[u8], line: u64) -> Result<Handed, OutOfMemory>
-    ensures { IfOk result (λ h. IsPlanTold h.ending) }
+    ensures { IfOk result (λ h. IsPlanReported h.ending) }
 {
     match Planned::read(alloc, plan) {
         Ok(planned) => show_script(alloc, &planned, line),
@@ -102,9 +102,9 @@ fn state_plan(alloc: Global, plan: &[u8], line: u64) -> Result<Handed, OutOfMemo
 
 /// Draws the script of a plan with the texts and the lines of the plan's steps, and returns the
 /// picture, with how the call ends.
-#[tactic(auto, using(crate::proofs::Planned::script_told))]
+#[tactic(auto, using(crate::proofs::Planned::script_reported))]
 fn draw_script(alloc: Global, planned: &Planned<'_>) -> Result<Handed, OutOfMemory>
-    ensures { IfOk result (λ h. IsPlanTold h.ending) }
+    ensures { IfOk result (λ h. IsPlanReported h.ending) }
 {
     if let Some(handed) = turned_away(alloc, planned, false)? {
         return Ok(handed);
@@ -123,7 +123,7 @@ fn draw_script(alloc: Global, planned: &Planned<'_>) -> Result<Handed, OutOfMemo
 
 /// Draws a plan, and returns the picture as SVG, with how the call ends.
 fn draw_plan(alloc: Global, plan: &[u8]) -> Result<Handed, OutOfMemory>
-    ensures { IfOk result (λ h. IsPlanTold h.ending) }
+    ensures { IfOk result (λ h. IsPlanReported h.ending) }
 {
     match Planned::read(alloc, plan) {
         Ok(planned) => draw_script(alloc, &planned),
@@ -164,8 +164,8 @@ pub extern "C" fn mcs_why_plan(alloc: Global, plan: &[u8], out: &mut [u8], end: 
     }
 }
 
-/// Writes as much as there is room for of the state behind a line of a plan, or at its end where
-/// the line is 0 or beyond the last, as JSON. Returns 0; 2, 5 and 6 as `mcs_check_plan`.
+/// Writes as much as there is room for of the state after a line of a plan, or at its end where the
+/// line is 0 or beyond the last, as JSON. Returns 0; 2, 5 and 6 as `mcs_check_plan`.
 #[unsafe(no_mangle)]
 pub extern "C" fn mcs_state_plan(
     alloc: Global,

@@ -4,40 +4,40 @@ ghost use Rattle.mcs_c.specs.Handing.{HandsOut, IsRefused};
 ghost use Rattle.mcs_c.specs.Replays.{going, IsEnd, IsReplay, IsStep, Replays, Steps};
 
 use crate::handing::{McsEnd, NO_MEMORY, WRONG, hand_out};
-use crate::telling::{Told, tell};
+use crate::telling::{RunOutput, tell};
 use mcs_sim::{SimFault, TracedRun};
 use mcs_types::OutOfMemory;
 use std::alloc::Global;
 
 /// Returns the trace of a script, to the script's end or to its first fault.
 #[tactic(auto, using(crate::proofs::Replayed::replayed, crate::proofs::Replayed::replayed_empty))]
-fn replay(alloc: Global, script: &[u8]) -> Result<Told, OutOfMemory>
+fn replay(alloc: Global, script: &[u8]) -> Result<RunOutput, OutOfMemory>
     ensures { IfOk result (λ t. IsReplay script.now t.text.items t.ended) }
 {
     let mut run = TracedRun::new(alloc)?;
     if script.is_empty() {
         return tell(alloc, &mut run, &[], Vec::new(alloc));
     }
-    let Told { text, ended: _ } = tell(alloc, &mut run, script, Vec::new(alloc))?;
+    let RunOutput { text, ended: _ } = tell(alloc, &mut run, script, Vec::new(alloc))?;
     tell(alloc, &mut run, &[], text)
 }
 
 /// Returns a run that took a script whose end has not come.
 #[tactic(auto, using(crate::proofs::Replayed::began, crate::proofs::Replayed::went))]
-fn begin(alloc: Global, script: &[u8]) -> Result<TracedRun, OutOfMemory>
+pub(crate) fn begin(alloc: Global, script: &[u8]) -> Result<TracedRun, OutOfMemory>
     ensures { IfOk result (λ r. r ≡ going script.now) }
 {
     let mut run = TracedRun::new(alloc)?;
     if script.is_empty() {
         return Ok(run);
     }
-    let _told = tell(alloc, &mut run, script, Vec::new(alloc))?;
+    let _output = tell(alloc, &mut run, script, Vec::new(alloc))?;
     Ok(run)
 }
 
 /// Returns what a line adds to the trace of the script before it.
 #[tactic(auto, using(crate::proofs::Replayed::stepped))]
-pub(crate) fn step(alloc: Global, script: &[u8], line: &[u8]) -> Result<Told, OutOfMemory>
+fn step(alloc: Global, script: &[u8], line: &[u8]) -> Result<RunOutput, OutOfMemory>
     ensures { IfOk result (λ t. IsStep script.now line.now t.text.items t.ended) }
 {
     let mut run = begin(alloc, script)?;
@@ -73,11 +73,11 @@ pub(crate) fn ending(ended: Result<(), SimFault>, length: usize) -> (u32, McsEnd
 }
 
 /// Hands a text out, with how its run ended, and returns the status.
-pub(crate) fn finish(told: &Told, out: &mut [u8], end: &mut McsEnd) -> u32
-    ensures wrote { HandsOut told.now.text.items out.old out.new end.new.length }
-    ensures ends { IsEnd told.now.ended result end.new }
+pub(crate) fn finish(output: &RunOutput, out: &mut [u8], end: &mut McsEnd) -> u32
+    ensures wrote { HandsOut output.now.text.items out.old out.new end.new.length }
+    ensures ends { IsEnd output.now.ended result end.new }
 {
-    let (status, ended) = ending(told.ended, hand_out(&told.text, out));
+    let (status, ended) = ending(output.ended, hand_out(&output.text, out));
     *end = ended;
     status
 }
@@ -92,7 +92,7 @@ pub extern "C" fn mcs_replay(alloc: Global, script: &[u8], out: &mut [u8], end: 
         ⊎ Replays script.now result out.old out.new end.new }
 {
     match replay(alloc, script) {
-        Ok(told) => finish(&told, out, end),
+        Ok(output) => finish(&output, out, end),
         Err(OutOfMemory) => NO_MEMORY,
     }
 }
@@ -113,7 +113,7 @@ pub extern "C" fn mcs_step(
         ⊎ Steps script.now line.now result out.old out.new end.new }
 {
     match step(alloc, script, line) {
-        Ok(told) => finish(&told, out, end),
+        Ok(output) => finish(&output, out, end),
         Err(OutOfMemory) => NO_MEMORY,
     }
 }

@@ -1,7 +1,7 @@
 //! Views of a script: why its steps did nothing, the state at its end, and its picture.
 ghost use Rattle.std.specs.Prelude.{◌≡◌, ◌⊎◌, IfOk};
 ghost use Rattle.mcs_c.specs.Handing.{IsRefused};
-ghost use Rattle.mcs_c.specs.Checks.{IsTold, Tells};
+ghost use Rattle.mcs_c.specs.Checks.{IsReported, Tells};
 
 use crate::checking::check_ending;
 use crate::handing::{Handed, McsEnd, NO_MEMORY};
@@ -14,29 +14,29 @@ use std::alloc::Global;
 
 /// Returns a text, and how the call that wrote it ends after this answer.
 fn hand(text: Vec<u8>, answer: Result<bool, LabFault>) -> Result<Handed, OutOfMemory>
-    ensures { IfOk result (λ h. IsTold h.ending) }
+    ensures { IfOk result (λ h. IsReported h.ending) }
 {
     let ending = check_ending(answer).granted()?;
     Ok(Handed { text, ending })
 }
 
-/// Explains a script, and returns what is said, with how the call ends.
+/// Explains a script, and returns the text, with how the call ends.
 pub(crate) fn why_text(alloc: Global, script: &[u8]) -> Result<Handed, OutOfMemory>
-    ensures { IfOk result (λ h. IsTold h.ending) }
+    ensures { IfOk result (λ h. IsReported h.ending) }
 {
     let mut text = Vec::new(alloc);
     let answer = explain(alloc, &mut Source::new(script), &mut text);
     hand(text, answer)
 }
 
-/// Returns the state behind a line of a script as JSON, or at its end where none is named, with how
+/// Returns the state after a line of a script as JSON, or at its end where none is named, with how
 /// the call ends.
 pub(crate) fn state_text(
     alloc: Global,
     script: &[u8],
     at: Option<u64>,
 ) -> Result<Handed, OutOfMemory>
-    ensures { IfOk result (λ h. IsTold h.ending) }
+    ensures { IfOk result (λ h. IsReported h.ending) }
 {
     let mut text = Vec::new(alloc);
     let wanted = Wanted {
@@ -55,7 +55,7 @@ pub(crate) fn draw_text(
     script: &[u8],
     asked: &Asked<'_>,
 ) -> Result<Handed, OutOfMemory>
-    ensures { IfOk result (λ h. IsTold h.ending) }
+    ensures { IfOk result (λ h. IsReported h.ending) }
 {
     let mut text = Vec::new(alloc);
     let answer = match draw_script(alloc, &mut Source::new(script), &mut text, asked) {

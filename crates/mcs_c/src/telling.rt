@@ -8,7 +8,7 @@ use std::alloc::Global;
 
 /// A text, and how the run that wrote it ended. A run that an allocation ended has no text.
 #[derive(Drop)]
-pub(crate) struct Told {
+pub(crate) struct RunOutput {
     pub(crate) text: Vec<u8>,
     pub(crate) ended: Result<(), SimFault>,
 }
@@ -40,7 +40,7 @@ pub(crate) fn tell(
     run: &mut TracedRun,
     piece: &[u8],
     text: Vec<u8>,
-) -> Result<Told, OutOfMemory>
+) -> Result<RunOutput, OutOfMemory>
     ensures { IfOk result (λ t. Tells run.old piece.now run.new text.items t.text.items t.ended) }
 {
     let Ok(mut sink) = Sink::new(alloc, text) else {
@@ -50,7 +50,7 @@ pub(crate) fn tell(
     if sink.is_broken() || is_refused(ended) {
         return Err(OutOfMemory);
     }
-    Ok(Told {
+    Ok(RunOutput {
         text: sink.into_writer(),
         ended,
     })
