@@ -8,9 +8,10 @@ ghost use Rattle.mcs_book.specs.Boots.{boot_log, IsFaultless};
 ghost use Rattle.mcs_boots.specs.Booted.{adds_line, line_check, radix_made, IsOfCheck};
 
 mod checks;
-mod taking;
+mod lines;
 
 use checks::{check, exists_as};
+use lines::takes_line;
 use mcs_book::Book;
 use mcs_object_queues::{ObjectQueues, Waiting};
 use mcs_queues::PlainLines;
@@ -19,7 +20,6 @@ use mcs_state::State;
 use mcs_types::{BootFault, BootLine, CORES, Kind, ObjId, OutOfMemory};
 use std::alloc::Global;
 use std::marker::Model;
-use taking::takes_line;
 
 /// The initial state of a machine: the number of cores, and checked lines (own). Clauses see the
 /// lines newest first.

@@ -4,7 +4,7 @@ use Rattle.std.specs.Result.{IfOk}
 use Rattle.std.proofs.Common.{inl, inr, ap, sym, ◌∙◌, arith}
 use Rattle.mcs_lab_check.specs.declared.fault.LabFault.{LabFault}
 use Rattle.mcs_lab_check.specs.declared.fault.LabFault.TheVariants as fault
-use Rattle.mcs_c.specs.declared.handing.Ending.{Ending}
+use Rattle.mcs_c.specs.declared.output.Ending.{Ending}
 use Rattle.mcs_c.specs.Checks.{IsChecked, check_ending, lab_ending}
 use Rattle.mcs_c.specs.Handing.{with_status}
 use Rattle.mcs_c.specs.Verdicts.{holds_throughout}

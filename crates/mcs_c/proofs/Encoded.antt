@@ -25,11 +25,11 @@ use Rattle.mcs_packing.specs.declared.entries.OverAddress.TheVariants as one
 use Rattle.mcs_packing.specs.declared.entries.OverPlace.{OverPlace}
 use Rattle.mcs_packing.specs.declared.entries.OverPlace.TheVariants as place
 use Rattle.mcs_packing.specs.Entries.{sending, over_pair, over_address, over_place}
-use Rattle.mcs_c.specs.declared.entering.EntryFault.TheVariants.{Form, Range}
-use Rattle.mcs_c.specs.declared.entering.McsEntry.{McsEntry}
-use Rattle.mcs_c.specs.declared.entering.Shape.{Shape}
-use Rattle.mcs_c.specs.declared.entering.Shape.TheVariants as shape
-use Rattle.mcs_c.specs.declared.entering.TheConstants.{ENTRY_WORDS}
+use Rattle.mcs_c.specs.declared.entries.EntryFault.TheVariants.{Form, Range}
+use Rattle.mcs_c.specs.declared.entries.McsEntry.{McsEntry}
+use Rattle.mcs_c.specs.declared.entries.Shape.{Shape}
+use Rattle.mcs_c.specs.declared.entries.Shape.TheVariants as shape
+use Rattle.mcs_c.specs.declared.entries.TheConstants.{ENTRY_WORDS}
 use Rattle.mcs_c.specs.Encoding.{IsEncodable, IsHeld, encoded, key_of, numbers_said, of_message, padded, with_place}
 use Rattle.mcs_c.specs.Entering.{entrant_of, entry_of, entry_said, fits_entrant, fits_message, least, ranged, replied, shape_of, step_said, step_with}
 

@@ -4,7 +4,7 @@ use Rattle.std.specs.Result.{IfOk}
 use Rattle.std.proofs.Common.{ap, arith}
 use Rattle.mcs_explore_questions.specs.declared.fault.ExploreFault.{ExploreFault}
 use Rattle.mcs_explore_questions.specs.declared.fault.ExploreFault.TheVariants as explore
-use Rattle.mcs_c.specs.declared.handing.Ending.{Ending}
+use Rattle.mcs_c.specs.declared.output.Ending.{Ending}
 use Rattle.mcs_c.specs.Explores.{IsExplored, explore_fault_ending}
 use Rattle.mcs_c.proofs.Checked.{lab-above}
 

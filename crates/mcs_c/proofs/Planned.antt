@@ -3,7 +3,7 @@ use Rattle.std.specs.Prelude.{ℕ, List}
 use Rattle.std.proofs.Common.{inr}
 use Rattle.mcs_plan_words.specs.Alignment.{HasLinesOf}
 use Rattle.mcs_plan_words.specs.Scripts.{IsScriptOfPlan}
-use Rattle.mcs_c.specs.declared.handing.Ending.{Ending}
+use Rattle.mcs_c.specs.declared.output.Ending.{Ending}
 use Rattle.mcs_c.specs.Checks.{IsChecked, IsReported}
 use Rattle.mcs_c.specs.Explores.{IsExplored}
 use Rattle.mcs_c.specs.Plans.{IsInPlan, IsPlanChecked, IsPlanExplored, IsPlanReported}

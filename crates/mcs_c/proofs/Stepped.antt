@@ -3,14 +3,14 @@ use Rattle.std.proofs.Common.{◌≡◌, ℕ, Option, None, Result, Ok, Err, Lis
 use Rattle.mcs_types.specs.declared.entry.Step.{Step}
 use Rattle.mcs_book.specs.History.{Line}
 use Rattle.mcs_text.specs.Table.{step_text}
-use Rattle.mcs_phases.specs.Going.{Going}
-use Rattle.mcs_c.specs.declared.answering.Brought.{Brought}
-use Rattle.mcs_c.specs.declared.answering.McsAnswer.{McsAnswer}
-use Rattle.mcs_c.specs.declared.answering.McsRecord.{McsRecord}
-use Rattle.mcs_c.specs.declared.entering.EntryFault.{EntryFault}
-use Rattle.mcs_c.specs.declared.handing.Handed.{Handed}
-use Rattle.mcs_c.specs.declared.handing.McsEnd.{McsEnd}
-use Rattle.mcs_c.specs.declared.telling.RunOutput.{RunOutput}
+use Rattle.mcs_phases.specs.Feeds.{FeedState}
+use Rattle.mcs_c.specs.declared.answers.Brought.{Brought}
+use Rattle.mcs_c.specs.declared.answers.McsAnswer.{McsAnswer}
+use Rattle.mcs_c.specs.declared.answers.McsRecord.{McsRecord}
+use Rattle.mcs_c.specs.declared.entries.EntryFault.{EntryFault}
+use Rattle.mcs_c.specs.declared.output.Handed.{Handed}
+use Rattle.mcs_c.specs.declared.output.McsEnd.{McsEnd}
+use Rattle.mcs_c.specs.declared.pieces.RunOutput.{RunOutput}
 use Rattle.mcs_c.specs.Answering.{Brings, FillsWith, IsAnswer, IsBrought, line_count, newest}
 use Rattle.mcs_c.specs.Entering.{step_after}
 use Rattle.mcs_c.specs.Handing.{Ends, HandsOut, at_line, with_status}
@@ -44,7 +44,7 @@ spells said h status old new end is wrote ends = record {
 
 -- a line was taken after a script, and then the answer and the records of the line that it added
 -- were read from the book
-pub taken : (script line none : List ℕ) (g h : Going) (before : ℕ) (output : RunOutput) (b : Brought)
+pub taken : (script line none : List ℕ) (g h : FeedState) (before : ℕ) (output : RunOutput) (b : Brought)
     → g ≡ going script → none ≡ [] → before ≡ line_count g.course.stands.book → Tells g line h none output.text.items output.ended → IsBrought (newest before h.course.stands.book) b → IsTaken script line output b
 taken script line none g h before output b went empty many one brought = record {
   steps = stepped script line g h output.text.items output.ended went (subst (λ (l : List ℕ). Tells g line h l output.text.items output.ended) empty one);
@@ -53,8 +53,8 @@ taken script line none g h before output b went empty many one brought = record 
   where
     same : newest before h.course.stands.book ≡ line_added script line
     same = ap (λ (n : ℕ). newest n h.course.stands.book) many
-        ∙ ap (λ (h : Going). newest (line_count g.course.stands.book) h.course.stands.book) one.takes
-        ∙ ap (λ (g : Going). newest (line_count g.course.stands.book) (after g line).course.stands.book) went
+        ∙ ap (λ (h : FeedState). newest (line_count g.course.stands.book) h.course.stands.book) one.takes
+        ∙ ap (λ (g : FeedState). newest (line_count g.course.stands.book) (after g line).course.stands.book) went
 
 -- the step of an entry was taken
 pub entered : (script : List ℕ) (said : Result Step EntryFault) (line : List ℕ) (output : RunOutput) (b : Brought) → step_after [] said ≡ Ok line → IsTaken script line output b → HasEntered script said (Ok output) b

@@ -8,9 +8,9 @@ use Rattle.mcs_types.specs.declared.record.Rec.TheVariants as rec
 use Rattle.mcs_book.specs.History.{Book, Line, line_of_number}
 use Rattle.mcs_text.specs.Spelling.{letter_of, queue_name}
 use Rattle.mcs_text.specs.Table.{answer_form}
-use Rattle.mcs_c.specs.declared.answering.McsAnswer.{McsAnswer}
-use Rattle.mcs_c.specs.declared.answering.McsRecord.{McsRecord}
-use Rattle.mcs_c.specs.declared.answering.Brought.{Brought}
+use Rattle.mcs_c.specs.declared.answers.McsAnswer.{McsAnswer}
+use Rattle.mcs_c.specs.declared.answers.McsRecord.{McsRecord}
+use Rattle.mcs_c.specs.declared.answers.Brought.{Brought}
 
 -- the number of the kind of an answer
 abbrev pub answer_kind : Answer → ℕ

@@ -4,8 +4,8 @@ use Rattle.mcs_text.specs.Faults.{fault_number}
 use Rattle.mcs_text.specs.declared.fault.LineFault.{LineFault}
 use Rattle.mcs_lab_check.specs.declared.fault.LabFault.{LabFault}
 use Rattle.mcs_lab_check.specs.declared.fault.LabFault.TheVariants as fault
-use Rattle.mcs_c.specs.declared.handing.Ending.{Ending}
-use Rattle.mcs_c.specs.declared.handing.McsEnd.{McsEnd}
+use Rattle.mcs_c.specs.declared.output.Ending.{Ending}
+use Rattle.mcs_c.specs.declared.output.McsEnd.{McsEnd}
 use Rattle.mcs_c.specs.Handing.{Ends, HandsOut, at_line, with_status}
 use Rattle.mcs_c.specs.Verdicts.{holds_throughout}
 

@@ -8,8 +8,8 @@ use Rattle.mcs_plan_source.specs.declared.fault.PlanFault.{PlanFault}
 use Rattle.mcs_plan_validate.specs.declared.fault.CompileFault.{CompileFault}
 use Rattle.mcs_plan_validate.specs.declared.fault.CompileFault.TheVariants as fault
 use Rattle.mcs_plan_words.specs.Scripts.{IsScriptOfPlan}
-use Rattle.mcs_c.specs.declared.handing.Ending.{Ending}
-use Rattle.mcs_c.specs.declared.handing.McsEnd.{McsEnd}
+use Rattle.mcs_c.specs.declared.output.Ending.{Ending}
+use Rattle.mcs_c.specs.declared.output.McsEnd.{McsEnd}
 use Rattle.mcs_c.specs.Handing.{Ends, HandsOut, at_line, with_status}
 
 -- how a call ends by a line of a plan that is refused, or by memory

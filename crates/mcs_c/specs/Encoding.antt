@@ -10,8 +10,8 @@ use Rattle.mcs_types.specs.declared.entry.Entry.{Entry}
 use Rattle.mcs_types.specs.declared.entry.Entry.TheVariants.{Send, NbSend, Call, Recv, NbRecv, Wait, NbWait, ReplyRecv, Signal, SetPriority, Suspend, Resume, BindNtfn, UnbindNtfn, BindCtx, UnbindCtx, CancelBadged, CopyCap, MintCap, MoveCap, DeleteCap, MakeEndpoint, MakeNotification, MakeReply, MakeContext, NbSendRecv, NbSendWait}
 use Rattle.mcs_types.specs.declared.entry.Step.{Step}
 use Rattle.mcs_types.specs.declared.id.Kind.TheVariants.{Thread}
-use Rattle.mcs_c.specs.declared.entering.McsEntry.{McsEntry}
-use Rattle.mcs_c.specs.declared.entering.TheConstants.{ENTRY_WORDS}
+use Rattle.mcs_c.specs.declared.entries.McsEntry.{McsEntry}
+use Rattle.mcs_c.specs.declared.entries.TheConstants.{ENTRY_WORDS}
 
 -- the key of an entry
 abbrev pub key_of : Entry → ℕ

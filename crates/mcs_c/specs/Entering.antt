@@ -19,11 +19,11 @@ use Rattle.mcs_packing.specs.declared.entries.OverPlace.TheVariants as place
 use Rattle.mcs_packing.specs.Entries.{sending, over_pair, over_address, over_place, place_of}
 use Rattle.mcs_text.specs.declared.token.Entrant.{Entrant}
 use Rattle.mcs_text.specs.Table.{step_by, step_text}
-use Rattle.mcs_c.specs.declared.entering.EntryFault.{EntryFault}
-use Rattle.mcs_c.specs.declared.entering.EntryFault.TheVariants.{Form, Range}
-use Rattle.mcs_c.specs.declared.entering.Shape.{Shape}
-use Rattle.mcs_c.specs.declared.entering.Shape.TheVariants as shape
-use Rattle.mcs_c.specs.declared.entering.McsEntry.{McsEntry}
+use Rattle.mcs_c.specs.declared.entries.EntryFault.{EntryFault}
+use Rattle.mcs_c.specs.declared.entries.EntryFault.TheVariants.{Form, Range}
+use Rattle.mcs_c.specs.declared.entries.Shape.{Shape}
+use Rattle.mcs_c.specs.declared.entries.Shape.TheVariants as shape
+use Rattle.mcs_c.specs.declared.entries.McsEntry.{McsEntry}
 
 -- a value where its numbers are in their ranges
 abbrev pub ranged : {A : Type 0} → Bool → A → Result A EntryFault

@@ -6,8 +6,8 @@ use Rattle.mcs_explore_report.specs.declared.report.Explored.{Explored}
 use Rattle.mcs_explore_report.specs.declared.report.Explored.TheVariants as explored
 use Rattle.mcs_explore_report.specs.Failing.{HasReadFailing}
 use Rattle.mcs_explore_report.specs.Holding.{HasReadHolding}
-use Rattle.mcs_c.specs.declared.handing.Ending.{Ending}
-use Rattle.mcs_c.specs.declared.handing.McsEnd.{McsEnd}
+use Rattle.mcs_c.specs.declared.output.Ending.{Ending}
+use Rattle.mcs_c.specs.declared.output.McsEnd.{McsEnd}
 use Rattle.mcs_c.specs.Checks.{lab_ending}
 use Rattle.mcs_c.specs.Handing.{Ends, HandsOut, at_line, with_status}
 

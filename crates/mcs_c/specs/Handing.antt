@@ -1,7 +1,7 @@
 -- What a call leaves in memory of its caller's.
 use Rattle.std.specs.Prelude.{◌≡◌, ℕ, List, ◌++◌, length, take, drop}
-use Rattle.mcs_c.specs.declared.handing.Ending.{Ending}
-use Rattle.mcs_c.specs.declared.handing.McsEnd.{McsEnd}
+use Rattle.mcs_c.specs.declared.output.Ending.{Ending}
+use Rattle.mcs_c.specs.declared.output.McsEnd.{McsEnd}
 
 -- of a text as much was written as there was room for, and the bytes after it are unchanged
 abbrev pub Fills : (text old new : List ℕ) → Type 0

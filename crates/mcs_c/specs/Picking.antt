@@ -4,9 +4,9 @@ use Rattle.mcs_types.specs.declared.id.ObjId.{ObjId}
 use Rattle.mcs_types.specs.declared.id.Kind.TheVariants.{Thread}
 use Rattle.mcs_book.specs.History.{Book, log_of}
 use Rattle.mcs_book.specs.Picking.{IsPick}
-use Rattle.mcs_phases.specs.Going.{answer_of}
-use Rattle.mcs_c.specs.declared.handing.McsEnd.{McsEnd}
-use Rattle.mcs_c.specs.declared.picking.Pick.{Pick}
+use Rattle.mcs_phases.specs.Feeds.{answer_of}
+use Rattle.mcs_c.specs.declared.output.McsEnd.{McsEnd}
+use Rattle.mcs_c.specs.declared.picks.Pick.{Pick}
 use Rattle.mcs_c.specs.Replays.{IsEnd, course_of}
 
 -- the thread of a serial; none where that is 0

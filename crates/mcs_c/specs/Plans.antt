@@ -2,8 +2,8 @@
 use Rattle.std.specs.Prelude.{◌≡◌, ◌⊎◌, ℕ, List}
 use Rattle.mcs_plan_words.specs.Alignment.{HasLinesOf}
 use Rattle.mcs_plan_words.specs.Scripts.{IsScriptOfPlan}
-use Rattle.mcs_c.specs.declared.handing.Ending.{Ending}
-use Rattle.mcs_c.specs.declared.handing.McsEnd.{McsEnd}
+use Rattle.mcs_c.specs.declared.output.Ending.{Ending}
+use Rattle.mcs_c.specs.declared.output.McsEnd.{McsEnd}
 use Rattle.mcs_c.specs.Checks.{IsChecked, IsReported}
 use Rattle.mcs_c.specs.Compiles.{IsPlanRefused}
 use Rattle.mcs_c.specs.Explores.{IsExplored}

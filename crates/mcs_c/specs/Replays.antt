@@ -4,19 +4,19 @@ use Rattle.mcs_text.specs.Faults.{fault_number}
 use Rattle.mcs_phases.specs.declared.fault.SimFault.{SimFault}
 use Rattle.mcs_phases.specs.declared.fault.SimFault.TheVariants as fault
 use Rattle.mcs_phases.specs.Script.{steps}
-use Rattle.mcs_phases.specs.Going.{Going, Course, IsFairBook, answer_of, at_line, ended, fed, no_line}
+use Rattle.mcs_phases.specs.Feeds.{FeedState, Course, IsFairBook, answer_of, at_line, ended, fed, no_line}
 use Rattle.mcs_sim.specs.Outcomes.{ComesOfScript}
 use Rattle.mcs_sim.specs.Trace.{trace_of}
-use Rattle.mcs_c.specs.declared.handing.McsEnd.{McsEnd}
+use Rattle.mcs_c.specs.declared.output.McsEnd.{McsEnd}
 use Rattle.mcs_c.specs.Handing.{HandsOut}
 
 -- a replay after a piece more, or after the end of the input where the piece is empty
-abbrev pub after : Going → List ℕ → Going
+abbrev pub after : FeedState → List ℕ → FeedState
 after g [] = at_line (ended g)
 after g (b ∷ bs) = fed g (b ∷ bs)
 
 -- a replay after a text whose end has not come
-abbrev pub going : List ℕ → Going
+abbrev pub going : List ℕ → FeedState
 going text = fed (at_line no_line) text
 
 -- a replay of a whole text
@@ -24,17 +24,17 @@ abbrev pub course_of : List ℕ → Course
 course_of text = ended (going text)
 
 -- the trace of a replay so far
-abbrev pub trace_so_far : Going → List ℕ
+abbrev pub trace_so_far : FeedState → List ℕ
 trace_so_far g = trace_of g.course.stands.book
 
 -- what a trace has more than before was added to a text
-pub record Adds (old new : Going) (text text' : List ℕ) : Type 0 where
+pub record Adds (old new : FeedState) (text text' : List ℕ) : Type 0 where
   pub more : List ℕ
   pub adds : trace_so_far new ≡ trace_so_far old ++ more
   pub grown : text' ≡ text ++ more
 
 -- a piece was taken, what it adds to the trace was added to a text, and this was answered
-pub record Tells (old : Going) (piece : List ℕ) (new : Going) (text text' : List ℕ) (answer : Result (Unit {0}) SimFault) : Type 0 where
+pub record Tells (old : FeedState) (piece : List ℕ) (new : FeedState) (text text' : List ℕ) (answer : Result (Unit {0}) SimFault) : Type 0 where
   pub takes : new ≡ after old piece
   pub adds : Adds old new text text'
   pub answers : answer ≡ answer_of new.course.fault

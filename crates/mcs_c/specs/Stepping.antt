@@ -3,15 +3,15 @@ use Rattle.std.specs.Prelude.{◌≡◌, ℕ, List, [], Option, None, Result, Ok
 use Rattle.mcs_types.specs.declared.entry.Step.{Step}
 use Rattle.mcs_book.specs.History.{Line}
 use Rattle.mcs_text.specs.Table.{step_text}
-use Rattle.mcs_c.specs.declared.answering.Brought.{Brought}
-use Rattle.mcs_c.specs.declared.answering.McsAnswer.{McsAnswer}
-use Rattle.mcs_c.specs.declared.answering.McsRecord.{McsRecord}
-use Rattle.mcs_c.specs.declared.entering.EntryFault.{EntryFault}
-use Rattle.mcs_c.specs.declared.entering.EntryFault.TheVariants as fault
-use Rattle.mcs_c.specs.declared.handing.Ending.{Ending}
-use Rattle.mcs_c.specs.declared.handing.Handed.{Handed}
-use Rattle.mcs_c.specs.declared.handing.McsEnd.{McsEnd}
-use Rattle.mcs_c.specs.declared.telling.RunOutput.{RunOutput}
+use Rattle.mcs_c.specs.declared.answers.Brought.{Brought}
+use Rattle.mcs_c.specs.declared.answers.McsAnswer.{McsAnswer}
+use Rattle.mcs_c.specs.declared.answers.McsRecord.{McsRecord}
+use Rattle.mcs_c.specs.declared.entries.EntryFault.{EntryFault}
+use Rattle.mcs_c.specs.declared.entries.EntryFault.TheVariants as fault
+use Rattle.mcs_c.specs.declared.output.Ending.{Ending}
+use Rattle.mcs_c.specs.declared.output.Handed.{Handed}
+use Rattle.mcs_c.specs.declared.output.McsEnd.{McsEnd}
+use Rattle.mcs_c.specs.declared.pieces.RunOutput.{RunOutput}
 use Rattle.mcs_c.specs.Answering.{Brings, IsBrought, line_count, newest}
 use Rattle.mcs_c.specs.Handing.{Ends, HandsOut, IsRefused, at_line, with_status}
 use Rattle.mcs_c.specs.Replays.{IsEnd, IsStep, Steps, after, going}

@@ -19,24 +19,24 @@
 //! if an allocation fails, it writes nothing.
 #![tactic(auto)]
 
-mod answering;
-mod checking;
-mod compiling;
-mod entering;
-mod exploring;
-mod handing;
-mod judging;
+mod answers;
+mod checks;
+mod compilation;
+mod entries;
+mod exploration;
+mod judgement;
 mod laws;
-mod picking;
+mod output;
+mod picks;
+mod pieces;
 mod plan_orders;
 mod plan_words;
 mod plans;
-mod replaying;
-mod showing;
-mod stepping;
-mod telling;
+mod replays;
+mod steps;
+mod views;
 
-pub use answering::{McsAnswer, McsRecord};
-pub use entering::McsEntry;
-pub use handing::McsEnd;
+pub use answers::{McsAnswer, McsRecord};
+pub use entries::McsEntry;
 pub use laws::steps_encoded;
+pub use output::McsEnd;

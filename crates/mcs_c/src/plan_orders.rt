@@ -4,9 +4,9 @@ ghost use Rattle.mcs_plan_words.specs.Scripts.{IsScriptOfPlan};
 ghost use Rattle.mcs_c.specs.Handing.{IsRefused};
 ghost use Rattle.mcs_c.specs.Plans.{ExploresPlan, IsPlanExplored};
 
-use crate::compiling::refuse;
-use crate::exploring::{Kept, Nowhere, explore_text};
-use crate::handing::{Handed, McsEnd, NO_MEMORY};
+use crate::compilation::refuse;
+use crate::exploration::{Kept, Nowhere, explore_text};
+use crate::output::{Handed, McsEnd, NO_MEMORY};
 use crate::plan_words::{reworded, turned_away};
 use mcs_explore_report::Saves;
 use mcs_plan_words::{Form, Planned};

@@ -2,7 +2,7 @@
 ghost use Rattle.std.specs.Prelude.{IfOk, IfSome};
 ghost use Rattle.mcs_c.specs.Plans.{IsInPlan, IsOfOtherKind};
 
-use crate::handing::{Ending, Handed};
+use crate::output::{Ending, Handed};
 use mcs_plan_validate::Numbered;
 use mcs_plan_words::{Form, Planned, number_in};
 use mcs_types::OutOfMemory;

@@ -5,11 +5,11 @@ ghost use Rattle.mcs_plan_words.specs.Scripts.{IsScriptOfPlan};
 ghost use Rattle.mcs_c.specs.Handing.{IsRefused};
 ghost use Rattle.mcs_c.specs.Plans.{ChecksPlan, IsPlanChecked, IsPlanReported, TellsPlan};
 
-use crate::checking::check_text;
-use crate::compiling::{refuse, refuse_with};
-use crate::handing::{Handed, McsEnd, NO_MEMORY};
+use crate::checks::check_text;
+use crate::compilation::{refuse, refuse_with};
+use crate::output::{Handed, McsEnd, NO_MEMORY};
 use crate::plan_words::{in_plan, reworded, turned_away};
-use crate::showing::{draw_text, state_text, why_text};
+use crate::views::{draw_text, state_text, why_text};
 use mcs_lab_render::{Asked, Format};
 use mcs_plan_validate::CompileFault;
 use mcs_plan_words::{Form, Planned, bail_line};

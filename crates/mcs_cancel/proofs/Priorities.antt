@@ -17,7 +17,7 @@ use Rattle.mcs_book.specs.Threads.{maximum_of}
 use Rattle.mcs_state.specs.Checks.{kinded, object_found, act_of}
 use Rattle.mcs_state.proofs.Named.{object-is}
 use Rattle.mcs_state.specs.Changing.{changes}
-use Rattle.mcs_state.specs.declared.changing.Change.TheVariants as change
+use Rattle.mcs_state.specs.declared.changes.Change.TheVariants as change
 use Rattle.mcs_cancel.specs.Priorities.{under, settable_thread}
 
 -- the act, of the thread that was found

@@ -11,7 +11,7 @@ ghost use Rattle.mcs_state.specs.Entering.{IsEntering};
 ghost use Rattle.mcs_state.specs.Nexts.{next_of};
 ghost use Rattle.mcs_cancel.specs.Badging.{cancellable, restarts_one, restarts_with, restarts_badged};
 
-use crate::cancelling::cancel;
+use crate::cancellation::cancel;
 use mcs_object_queues::Waiting;
 use mcs_state::{State, of_kind, wake};
 use mcs_types::{ALL_RIGHTS, Badge, Cap, CoreId, Kind, Letter, Mode, ObjId, Queue, Refusal};

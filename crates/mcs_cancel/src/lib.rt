@@ -3,14 +3,14 @@
 #![tactic(auto)]
 
 mod badged;
-mod cancelling;
+mod cancellation;
 mod checks;
-mod destroying;
+mod destruction;
 mod modes;
 mod priority;
 
 pub use badged::cancel_badged;
-pub use cancelling::cancel;
-pub use destroying::{destroy, unbind};
+pub use cancellation::cancel;
+pub use destruction::{destroy, unbind};
 pub use modes::{resume, suspend};
 pub use priority::set_priority;

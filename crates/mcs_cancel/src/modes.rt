@@ -11,7 +11,7 @@ ghost use Rattle.mcs_state.specs.Doing.{Makes, HasRoomFor, ActsAwake, FitsAwake,
 ghost use Rattle.mcs_state.specs.Entering.{IsEntering};
 ghost use Rattle.mcs_cancel.specs.Turning.{sets_mode, mode_resumed};
 
-use crate::cancelling::cancel;
+use crate::cancellation::cancel;
 use crate::checks::find_thread;
 use mcs_object_queues::Waiting;
 use mcs_state::{State, wake};

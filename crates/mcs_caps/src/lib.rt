@@ -3,10 +3,10 @@
 #![tactic(auto)]
 
 mod checks;
-mod copying;
-mod deleting;
-mod making;
+mod copies;
+mod creation;
+mod deletion;
 
-pub use copying::{copy_cap, mint_cap, move_cap};
-pub use deleting::delete_cap;
-pub use making::make;
+pub use copies::{copy_cap, mint_cap, move_cap};
+pub use creation::make;
+pub use deletion::delete_cap;

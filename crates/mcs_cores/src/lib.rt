@@ -1,13 +1,13 @@
 //! The running machine: one kernel under a lock, entered by the host threads of its cores.
 #![tactic(auto)]
 
+mod candidates;
 mod core_set;
 mod gate;
 mod machine;
 mod positions;
 mod run;
 mod shared;
-mod sight;
 mod users;
 
 pub use gate::{Gate, Open};

@@ -1,9 +1,9 @@
 //! The positions of a run's users, what they can enter, and which cores wait (own).
 ghost use Rattle.std.specs.Prelude.{◌+◌, ◌<◌, ◌^◌};
 
+use crate::candidates::{Candidate, Candidates, Turn};
 use crate::core_set::CoreSet;
 use crate::machine::LockedKernel;
-use crate::sight::{Offer, Sight, Turn};
 use crate::users::{UserList, Users};
 use mcs_kernel::Kernel;
 use mcs_queues::Lines;
@@ -48,7 +48,7 @@ impl UserPosition {
 
     /// Returns what the user of this number can enter now; None if it has no entry left, or its
     /// thread may enter nowhere.
-    fn offer<L: Lines>(&self, kernel: &Kernel<L>, user: usize) -> Option<Offer> {
+    fn candidate<L: Lines>(&self, kernel: &Kernel<L>, user: usize) -> Option<Candidate> {
         let row = kernel.thread(self.thread)?;
         let status = row.status();
         if !is_ready(status) || !self.place.is_left(Some(status), self.entries) {
@@ -61,7 +61,7 @@ impl UserPosition {
             number: self.place.due(Some(status)),
             moves: self.moves,
         };
-        Some(Offer {
+        Some(Candidate {
             core,
             priority: row.priority,
             turn,
@@ -94,14 +94,14 @@ impl Positions {
 
     /// Returns what a core can pick now. Each user is asked once, since its thread may enter on one
     /// core alone.
-    pub(crate) fn look<L: Lines>(&self, kernel: &Kernel<L>, core: CoreId) -> Sight {
-        let mut sight = Sight::new(core);
+    pub(crate) fn look<L: Lines>(&self, kernel: &Kernel<L>, core: CoreId) -> Candidates {
+        let mut candidates = Candidates::new(core);
         for (user, position) in self.users.iter().enumerate() {
-            if let Some(offer) = position.offer(kernel, user) {
-                sight.add(offer);
+            if let Some(candidate) = position.candidate(kernel, user) {
+                candidates.add(candidate);
             }
         }
-        sight
+        candidates
     }
 
     /// Enters what a core picked, and advances the user's position if it was accepted. Returns None

@@ -1,12 +1,12 @@
 //! A run: each core enters the users' entries by a host thread of its own (own).
 ghost use Rattle.std.specs.Prelude.{◌≡◌, ◌≤◌, ◌<◌, ◌+◌, ◌^◌, vec_len, vec_capacity};
 
+use crate::candidates::Turn;
 use crate::core_set::CoreSet;
 use crate::gate::Gate;
 use crate::machine::Machine;
 use crate::positions::Positions;
 use crate::shared::{Next, SharedPositions};
-use crate::sight::Turn;
 use crate::users::Users;
 use mcs_kernel::{EnterFault, Kernel};
 use mcs_queues::Lines;
@@ -98,12 +98,12 @@ impl<G: Ledger, L: Lines, T: Gate> RunContext<'_, G, L, T> {
         if positions.over {
             return (Next::Stops, CoreSet::new());
         }
-        let sight = positions.look(kernel, core);
-        if sight.ready().is_empty() {
+        let candidates = positions.look(kernel, core);
+        if candidates.ready().is_empty() {
             return (Next::Stops, self.shared.end(rt, positions));
         }
-        let notified = self.tell(rt, positions, kernel, sight.ready());
-        match sight.pick() {
+        let notified = self.tell(rt, positions, kernel, candidates.ready());
+        match candidates.pick() {
             Some(turn) => (Next::Enters(turn), notified),
             None => {
                 positions.asleep.insert(core);

@@ -1,8 +1,8 @@
 //! What the threads of a run share: the positions of users, and the messages to waiting cores
 //! (own).
+use crate::candidates::Turn;
 use crate::core_set::CoreSet;
 use crate::positions::Positions;
-use crate::sight::Turn;
 use crate::users::Users;
 use mcs_types::{CORES, CoreId, OutOfMemory};
 use std::alloc::Global;

@@ -3,8 +3,8 @@
 #![tactic(auto)]
 
 mod levels;
-mod naming;
+mod lookup;
 mod paths;
 
-pub use naming::{in_range, lookup, lookup_slot};
+pub use lookup::{in_range, lookup, lookup_slot};
 pub use paths::radix_in;

@@ -19,7 +19,7 @@ use Rattle.mcs_turns.specs.declared.position.Schedule.{Schedule}
 use Rattle.mcs_turns.specs.declared.position.Schedule.TheVariants as schedule
 use Rattle.mcs_turns.specs.declared.reached.Reached.{Reached}
 use Rattle.mcs_turns.specs.Due.{choices, due_by, picks_at}
-use Rattle.mcs_turns.specs.Turns.{User, Going, CanGive, CanBePicked, MayPrecede, ArePicksOf, ArePicks, IsStale, IsTurn, Follows, IsOver, AreInRange, all_answered, outcome, position_after, entered, given, put_at, saved_at}
+use Rattle.mcs_turns.specs.Turns.{User, RunState, CanGive, CanBePicked, MayPrecede, ArePicksOf, ArePicks, IsStale, IsTurn, Follows, IsOver, AreInRange, all_answered, outcome, position_after, entered, given, put_at, saved_at}
 use Rattle.mcs_turns.specs.Mail.{reached_from}
 use Rattle.mcs_turns.proofs.Choices.{IsOneOf, choice-in, choice-out, stale-same}
 use Rattle.mcs_turns.proofs.RunLaws.{run-legal, run-long}
@@ -45,7 +45,7 @@ precede-same schedule.Serial R S t u e f b = record {
 precede-same schedule.Equal R S t u e f b = subst (λ n. n ≤ prio_of S t) f (subst (λ n. prio_of R u ≤ n) e b)
 precede-same schedule.Any R S t u e f b = tt
 
-module _ (numbered : Bool) (users : List User) (boot : Boot) (g h : Going) (a : AreClose numbered users boot g h) where
+module _ (numbered : Bool) (users : List User) (boot : Boot) (g h : RunState) (a : AreClose numbered users boot g h) where
   logs : AlikeButNumbers (log_of g.book) (log_of h.book)
   logs = (by-likeness numbered).numbers (log_of g.book) (log_of h.book) a.logs
 
@@ -109,7 +109,7 @@ module _ (numbered : Bool) (users : List User) (boot : Boot) (g h : Going) (a : 
     each = λ core k at. pick-there core k (ps.each core k at);
   }
 
-module _ (numbered : Bool) (users : List User) (boot : Boot) (g h : Going) (a : AreAlike numbered users boot g h) (core : CoreId) (k : Pick) (t : Going) (turn : IsTurn users core k g t) where
+module _ (numbered : Bool) (users : List User) (boot : Boot) (g h : RunState) (a : AreAlike numbered users boot g h) (core : CoreId) (k : Pick) (t : RunState) (turn : IsTurn users core k g t) where
   -- the same turn in the other run
   pub turn-there : IsTurn users core k h (entered users turn.picks turn.user (record { core = core; thread = turn.user.thread; entry = given g turn.user k turn.entry }) k h)
   turn-there = record {
@@ -136,14 +136,14 @@ module _ (numbered : Bool) (users : List User) (boot : Boot) (g h : Going) (a : 
           in-other (inr (js, (at, among))) = inr (record { picks = js; stale = at; among = among })
 
 module _ (numbered : Bool) (users : List User) (boot : Boot) (whole : IsFaultless boot) (range : AreInRange users) where
-  pub legal : (g : Going) → IsReached users boot g → IsLegal g.book
+  pub legal : (g : RunState) → IsReached users boot g → IsLegal g.book
   legal g r = run-legal users boot whole range r.turns g r.run
 
-  module _ (g h : Going) (a : AreAlike numbered users boot g h) (core : CoreId) (k : Pick) (t : Going) (turn : IsTurn users core k g t) where
+  module _ (g h : RunState) (a : AreAlike numbered users boot g h) (core : CoreId) (k : Pick) (t : RunState) (turn : IsTurn users core k g t) where
     abbrev step : Step
     step = record { core = core; thread = turn.user.thread; entry = given g turn.user k turn.entry }
 
-    abbrev pub then_h : Going
+    abbrev pub then_h : RunState
     then_h = entered users turn.picks turn.user step k h
 
     c : AreClose numbered users boot g h
@@ -186,12 +186,12 @@ module _ (numbered : Bool) (users : List User) (boot : Boot) (whole : IsFaultles
     }
 
     pub newest : SameNewest t.book then_h.book
-    newest = subst (λ (x : Going). SameNewest x.book then_h.book) (sym turn.after) same
+    newest = subst (λ (x : RunState). SameNewest x.book then_h.book) (sym turn.after) same
 
     pub same-turn : IsSameTurn numbered users boot core k t h
-    same-turn = record { going = then_h; turn = other; newest = newest; alike = subst (λ x. AreAlike numbered users boot x then_h) (sym turn.after) after }
+    same-turn = record { run_state = then_h; turn = other; newest = newest; alike = subst (λ x. AreAlike numbered users boot x then_h) (sym turn.after) after }
 
-    pub respected : (w : Going) × (Follows users h w × AreAlike numbered users boot t w)
+    pub respected : (w : RunState) × (Follows users h w × AreAlike numbered users boot t w)
     respected = (then_h, (record { core = core; pick = k; turn = other }, subst (λ x. AreAlike numbered users boot x then_h) (sym turn.after) after))
 
   pub same-turns : AreSameTurns numbered users boot
@@ -212,26 +212,26 @@ module _ (numbered : Bool) (users : List User) (boot : Boot) (whole : IsFaultles
   }
 
   -- a run is like itself
-  pub alike-self : (g : Going) → IsReached users boot g → AreAlike numbered users boot g g
+  pub alike-self : (g : RunState) → IsReached users boot g → AreAlike numbered users boot g g
   alike-self g r = record {
     close = record { left = r; right = r; logs = by-self numbered (log_of g.book) (legal-sound g.book (legal g r)); places = refl };
     choices = λ picks are. refl;
   }
 
 -- and likeness goes both ways
-pub alike-back : (numbered : Bool) (users : List User) (boot : Boot) (g h : Going) → AreAlike numbered users boot g h → AreAlike numbered users boot h g
+pub alike-back : (numbered : Bool) (users : List User) (boot : Boot) (g h : RunState) → AreAlike numbered users boot g h → AreAlike numbered users boot h g
 alike-back numbered users boot g h a = record { close = back; choices = λ picks are. sym (a.choices picks (picks-there numbered users boot h g back picks are)) }
   where
     back : AreClose numbered users boot h g
     back = record { left = a.close.right; right = a.close.left; logs = by-back numbered (log_of g.book) (log_of h.book) a.close.logs; places = sym a.close.places }
 
 -- where one is over, so is the other
-pub over-there : (numbered : Bool) (users : List User) (boot : Boot) (g h : Going) → AreAlike numbered users boot g h → IsOver users g → IsOver users h
+pub over-there : (numbered : Bool) (users : List User) (boot : Boot) (g h : RunState) → AreAlike numbered users boot g h → IsOver users g → IsOver users h
 over-there numbered users boot g h a over = λ t f.
     over _ (record { core = f.core; pick = f.pick; turn = turn-there numbered users boot h g (alike-back numbered users boot g h a) f.core f.pick t f.turn })
 
 -- alike runs, where numbers are not distinguished
-pub unnumbered-alike : (users : List User) (boot : Boot) (g h : Going) → AreAlike true users boot g h → AreAlike false users boot g h
+pub unnumbered-alike : (users : List User) (boot : Boot) (g h : RunState) → AreAlike true users boot g h → AreAlike false users boot g h
 unnumbered-alike users boot g h a = record {
   close = record { left = a.close.left; right = a.close.right; logs = but-numbers (log_of g.book) (log_of h.book) a.close.logs; places = a.close.places };
   choices = a.choices;

@@ -13,7 +13,7 @@ pub mod Picking
 pub mod Books
 pub mod Exactly
 pub mod ExactBooks
-pub mod Going
+pub mod RunState
 pub mod Likenesses
 pub mod Back
 pub mod Alikes

@@ -10,7 +10,7 @@ use Rattle.mcs_explore_equivalence.specs.Likeness.{IsLogLikeness, AlikeBy}
 use Rattle.mcs_explore_equivalence.proofs.Books.{line-alike}
 use Rattle.mcs_explore_equivalence.proofs.ExactBooks.{exact-line, line-is}
 use Rattle.mcs_explore_equivalence.proofs.Exactly.{but-numbers}
-use Rattle.mcs_explore_equivalence.proofs.Going.{but-on, alike-on}
+use Rattle.mcs_explore_equivalence.proofs.RunState.{but-on, alike-on}
 
 pub numbers-likeness : IsLogLikeness AlikeButNumbers
 numbers-likeness = record { numbers = λ R S a. a; trans = but-on; steps = line-alike }

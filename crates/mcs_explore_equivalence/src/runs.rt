@@ -2,7 +2,7 @@
 //! runs again (own). Each law is about definitions, and its function does nothing.
 ghost use Rattle.std.specs.Prelude.{Bool, List, true, false};
 ghost use Rattle.mcs_book.specs.Boots.{Boot, IsFaultless};
-ghost use Rattle.mcs_turns.specs.Turns.{User, Going, AreInRange, Follows, IsOver};
+ghost use Rattle.mcs_turns.specs.Turns.{User, RunState, AreInRange, Follows, IsOver};
 ghost use Rattle.mcs_explore_search.specs.Closure.{IsLikeness};
 ghost use Rattle.mcs_explore_equivalence.specs.Runs.{AreAlike, AreSameTurns};
 
@@ -21,7 +21,7 @@ pub fn turns_respect()
 
 /// Law: if one of two alike runs (at.3, at.4) is over, so is the other.
 pub fn over_alike()
-    ghost at: { Bool × List User × Boot × Going × Going }
+    ghost at: { Bool × List User × Boot × RunState × RunState }
     requires alike { AreAlike at.0 at.1 at.2 at.3 at.4 }
     requires over { IsOver at.1 at.3 }
     ensures { IsOver at.1 at.4 }
@@ -29,14 +29,14 @@ pub fn over_alike()
 
 /// Law: alike runs (at.2, at.3) are also alike if message numbers are not distinguished.
 pub fn alike_unnumbered()
-    ghost at: { List User × Boot × Going × Going }
+    ghost at: { List User × Boot × RunState × RunState }
     requires { AreAlike true at.0 at.1 at.2 at.3 }
     ensures { AreAlike false at.0 at.1 at.2 at.3 }
 {}
 
 /// Law: likeness is symmetric (at.3, at.4).
 pub fn alike_back()
-    ghost at: { Bool × List User × Boot × Going × Going }
+    ghost at: { Bool × List User × Boot × RunState × RunState }
     requires { AreAlike at.0 at.1 at.2 at.3 at.4 }
     ensures { AreAlike at.0 at.1 at.2 at.4 at.3 }
 {}

@@ -8,7 +8,7 @@ use Rattle.mcs_book.specs.History.{Book, Line, line_of_number}
 use Rattle.mcs_text.specs.Spelling.{name_text}
 use Rattle.mcs_text.specs.Table.{step_text}
 use Rattle.mcs_turns.specs.Mail.{reached_from}
-use Rattle.mcs_turns.specs.Turns.{Going, User, beginning}
+use Rattle.mcs_turns.specs.Turns.{RunState, User, beginning}
 use Rattle.mcs_turns.specs.declared.reached.Reached.{Reached}
 use Rattle.mcs_explore_search.specs.declared.search.Edge.{Edge}
 use Rattle.mcs_explore_search.specs.Paths.{Path}
@@ -75,7 +75,7 @@ end_text Dot = codes "}\n"
 
 -- the label of an edge is that of its turn, made after the turns to its state
 abbrev pub IsLabel : {K : Type 0} → List User → Boot → Entries K Turn → Edge Turn → List ℕ → Type 0
-IsLabel users boot E e label = (g : Going) → Path (Leads users) (beginning users boot) (path_of E e.from ++ e.label ∷ []) g → label ≡ newest_label g.book
+IsLabel users boot E e label = (g : RunState) → Path (Leads users) (beginning users boot) (path_of E e.from ++ e.label ∷ []) g → label ≡ newest_label g.book
 
 -- the line of an edge
 abbrev pub IsLine : {K : Type 0} → Form → List User → Boot → Entries K Turn → Edge Turn → List ℕ → Type 0

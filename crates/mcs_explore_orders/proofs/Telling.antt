@@ -8,7 +8,7 @@ use Rattle.std.proofs.lemmas.List.Elements.{Contains-append_cases}
 use Rattle.mcs_types.specs.declared.entry.Answer.{Answer}
 use Rattle.mcs_book.specs.Boots.{Boot}
 use Rattle.mcs_turns.specs.declared.position.Position.{Position}
-use Rattle.mcs_turns.specs.Turns.{User, Going, Follows, IsOver, beginning}
+use Rattle.mcs_turns.specs.Turns.{User, RunState, Follows, IsOver, beginning}
 use Rattle.mcs_turns.proofs.OneTurn.{one-turn}
 use Rattle.mcs_explore_search.specs.Paths.{Path}
 use Rattle.mcs_explore_search.proofs.Places.{at-last, at-old, at-split, one-longer}
@@ -17,12 +17,12 @@ use Rattle.mcs_explore_walk.specs.Walks.{HasEachTurn, last_answer}
 use Rattle.mcs_explore_orders.specs.Trails.{Leads}
 use Rattle.mcs_explore_orders.specs.Exploring.{Exploring, IsLater}
 use Rattle.mcs_explore_orders.specs.Watching.{Watching, counting}
-use Rattle.mcs_explore_orders.specs.Shown.{AreShown, AreShownOf, Counting, HasCounted, HasSeenAll, IsShown, IsStateAt, IsShownState, IsShownTurn, IsTurnFrom, IsTurnOf, Made, SeesState, SeesTurn, Shown, Sight, Tells, TellsOn, ends_in, nothing, with_turns}
+use Rattle.mcs_explore_orders.specs.Shown.{AreShown, AreShownOf, Counting, HasCounted, HasSeenAll, IsShown, IsStateAt, IsShownState, IsShownTurn, IsTurnFrom, IsTurnOf, Made, SeesState, SeesTurn, Shown, SeenState, Tells, TellsOn, ends_in, nothing, with_turns}
 use Rattle.mcs_explore_orders.proofs.Nexts.{single}
 use Rattle.mcs_explore_orders.proofs.Paths.{path-one, take-on}
 
 -- what is reported of a state: it is over, or a turn is possible
-pub over-is : (users : List User) (g : Going) (over : Bool) → (over ≡ true → IsOver users g) → (over ≡ false → (h : Going) × Follows users g h) → (over ≡ true) ↔ IsOver users g
+pub over-is : (users : List User) (g : RunState) (over : Bool) → (over ≡ true → IsOver users g) → (over ≡ false → (h : RunState) × Follows users g h) → (over ≡ true) ↔ IsOver users g
 over-is users g true ends goes = (ends, λ over. refl)
 over-is users g false ends goes = (ends, λ over. let f = goes refl in absurd (over f.0 f.1))
 
@@ -58,14 +58,14 @@ sorted-both (x ∷ xs) ys p sorted low same (suc j) zero m n le a b = absurd (om
 sorted-both (x ∷ xs) ys p sorted low same (suc j) (suc k) m n le a b =
     sorted-both xs ys p (λ i h u v below c d. sorted (suc i) (suc h) u v (omega (arith, below)) c d) (λ i u c. low (suc i) u c) same j k m n (omega (arith, le)) a b
 
-shown-more : (old more : List Made) (place : ℕ) (t : Turn) (h : Going) → IsShown old place t h → IsShown (old ++ more) place t h
-shown-more old more place t h s = record { number = s.number; made = s.made; at = at-old old more s.number s.made s.at; place = s.place; turn = s.turn; going = s.going }
+shown-more : (old more : List Made) (place : ℕ) (t : Turn) (h : RunState) → IsShown old place t h → IsShown (old ++ more) place t h
+shown-more old more place t h s = record { number = s.number; made = s.made; at = at-old old more s.number s.made s.at; place = s.place; turn = s.turn; run_state = s.run_state }
 
-shown-after : (old more : List Made) (place : ℕ) (t : Turn) (h : Going) → IsShown more place t h → IsShown (old ++ more) place t h
-shown-after old more place t h s = let r = at-after old more s.number s.made s.at in record { number = r.0; made = s.made; at = r.1; place = s.place; turn = s.turn; going = s.going }
+shown-after : (old more : List Made) (place : ℕ) (t : Turn) (h : RunState) → IsShown more place t h → IsShown (old ++ more) place t h
+shown-after old more place t h s = let r = at-after old more s.number s.made s.at in record { number = r.0; made = s.made; at = r.1; place = s.place; turn = s.turn; run_state = s.run_state }
 
 -- before the first turn
-pub nothing-shown : (users : List User) (start : Going) → AreShown users start [] nothing
+pub nothing-shown : (users : List User) (start : RunState) → AreShown users start [] nothing
 nothing-shown users start = record {
   long = refl;
   states = λ i s at. absurd cc;
@@ -74,7 +74,7 @@ nothing-shown users start = record {
   sorted = λ j k m n le at. absurd cc;
 }
 
-pub nothing-reported : {W : Type 0} (Has : W → List User → Shown → Type 0) (a : W) (users : List User) (place : ℕ) (g : Going) → Tells Has a a users place g []
+pub nothing-reported : {W : Type 0} (Has : W → List User → Shown → Type 0) (a : W) (users : List User) (place : ℕ) (g : RunState) → Tells Has a a users place g []
 nothing-reported Has a users place g = λ shown has. (
   [],
   (
@@ -91,7 +91,7 @@ nothing-reported Has a users place g = λ shown has. (
     no-among t c = let lt = c.1 in omega (arith, lt)
 
 -- a turn that the rule does not have is not reported
-pub none-reported : {W : Type 0} (Has : W → List User → Shown → Type 0) (a b : W) (users : List User) (place : ℕ) (g : Going) (t : Turn) → b ≡ a → ((h : Going) → Leads users t g h → ⊥) → TellsOn Has a b users place g t
+pub none-reported : {W : Type 0} (Has : W → List User → Shown → Type 0) (a b : W) (users : List User) (place : ℕ) (g : RunState) (t : Turn) → b ≡ a → ((h : RunState) → Leads users t g h → ⊥) → TellsOn Has a b users place g t
 none-reported Has a b users place g t same none = λ shown ts made has are. (
   made,
   (
@@ -104,12 +104,12 @@ none-reported Has a b users place g t same none = λ shown ts made has are. (
   ),
 )
   where
-    go : (ts : List Turn) (made : List Made) → AreShownOf users place g ts made → (l : Turn) (h : Going) → Leads users l g h → Contains ts l ⊎ Contains (t ∷ []) l → IsShown made place l h
+    go : (ts : List Turn) (made : List Made) → AreShownOf users place g ts made → (l : Turn) (h : RunState) → Leads users l g h → Contains ts l ⊎ Contains (t ∷ []) l → IsShown made place l h
     go ts made are l h leads (inl c) = are.all l h c leads
     go ts made are l h leads (inr c) = absurd (none h (subst (λ u. Leads users u g h) (single t l c) leads))
 
 -- one that it has is reported
-pub one-reported : {W : Type 0} (Has : W → List User → Shown → Type 0) (a b : W) (users : List User) → (place : ℕ) (g : Going) (t : Turn) → IsShownTurn Has a b users place t g → TellsOn Has a b users place g t
+pub one-reported : {W : Type 0} (Has : W → List User → Shown → Type 0) (a b : W) (users : List User) → (place : ℕ) (g : RunState) (t : Turn) → IsShownTurn Has a b users place t g → TellsOn Has a b users place g t
 one-reported Has a b users place g t reported = λ shown ts made has are. (
   made ++ m ∷ [],
   (
@@ -123,7 +123,7 @@ one-reported Has a b users place g t reported = λ shown ts made has are. (
 )
   where
     m : Made
-    m = record { place = place; turn = t; answer = reported.answer; from = g.places; going = reported.going }
+    m = record { place = place; turn = t; answer = reported.answer; from = g.places; run_state = reported.run_state }
 
     places : {ts : List Turn} (made : List Made) → AreShownOf users place g ts made → (j : ℕ) (x : Made) → (slice_get made j ≡ Some x) ⊎ ((j ≡ length made) × (x ≡ m)) → x.place ≡ place
     places made are j x (inl h) = are.place j x h
@@ -133,7 +133,7 @@ one-reported Has a b users place g t reported = λ shown ts made has are. (
     turns ts made are j x (inl h) = are.turns j x h
     turns ts made are j x (inr e) = subst (λ (y : Made). IsTurnFrom users g y) (sym e.1) reported.is
 
-    all : (ts : List Turn) (made : List Made) → AreShownOf users place g ts made → (l : Turn) (h : Going) → Leads users l g h → Contains ts l ⊎ Contains (t ∷ []) l → IsShown (made ++ m ∷ []) place l h
+    all : (ts : List Turn) (made : List Made) → AreShownOf users place g ts made → (l : Turn) (h : RunState) → Leads users l g h → Contains ts l ⊎ Contains (t ∷ []) l → IsShown (made ++ m ∷ []) place l h
     all ts made are l h leads (inl c) = shown-more made (m ∷ []) place l h (are.all l h c leads)
     all ts made are l h leads (inr c) =
         let same : l ≡ t = single t l c in
@@ -143,11 +143,11 @@ one-reported Has a b users place g t reported = λ shown ts made has are. (
           at = at-last made m;
           place = refl;
           turn = sym same;
-          going = one-turn users t.core t.pick g reported.going h reported.is.leads (subst (λ u. Leads users u g h) same leads);
+          run_state = one-turn users t.core t.pick g reported.run_state h reported.is.leads (subst (λ u. Leads users u g h) same leads);
         }
 
 -- one turn more of those from a state
-pub tells-more : {W : Type 0} (Has : W → List User → Shown → Type 0) (a b c : W) (users others : List User) (place : ℕ) (g : Going) (ts : List Turn) (i : ℕ) (t : Turn) → others ≡ users → slice_get ts i ≡ Some t
+pub tells-more : {W : Type 0} (Has : W → List User → Shown → Type 0) (a b c : W) (users others : List User) (place : ℕ) (g : RunState) (ts : List Turn) (i : ℕ) (t : Turn) → others ≡ users → slice_get ts i ≡ Some t
     → TellsOn Has b c others place g t → Tells Has a b users place g (take i ts) → Tells Has a c users place g (take (i + 1) ts)
 tells-more {W = W} Has a b c users others place g ts i t same at on tells = λ shown has.
     let r = tells shown has in
@@ -155,23 +155,23 @@ tells-more {W = W} Has a b c users others place g ts i t same at on tells = λ s
     let more = reported shown (take i ts) r.0 r.1.0 r.1.1 in
     (more.0, (more.1.0, subst (λ us. AreShownOf users place g us more.0) (sym (take-on ts i t at)) more.1.1))
 
-module _ (users : List User) (start : Going) (paths : List (List Turn)) (path : List Turn) where
-  state-more : (i : ℕ) (s : Sight) → IsStateAt users start paths i s → IsStateAt users start (paths ++ path ∷ []) i s
+module _ (users : List User) (start : RunState) (paths : List (List Turn)) (path : List Turn) where
+  state-more : (i : ℕ) (s : SeenState) → IsStateAt users start paths i s → IsStateAt users start (paths ++ path ∷ []) i s
   state-more i s is = record { place = is.place; path = is.path; at = at-old paths (path ∷ []) i is.path is.at; leads = is.leads; over = is.over }
 
   turn-more : (m : Made) → IsTurnOf users start paths m → IsTurnOf users start (paths ++ path ∷ []) m
   turn-more m is = record { path = is.path; at = at-old paths (path ∷ []) m.place is.path is.at; state = is.state; leads = is.leads; turn = is.turn }
 
   -- a state more, and the turns from it
-  pub shown-on : {W : Type 0} (Has : W → List User → Shown → Type 0) (a b c : W) (place : ℕ) (g : Going) (ts : List Turn) → Path (Leads users) start path g → length paths ≡ place → HasEachTurn users g ts
+  pub shown-on : {W : Type 0} (Has : W → List User → Shown → Type 0) (a b c : W) (place : ℕ) (g : RunState) (ts : List Turn) → Path (Leads users) start path g → length paths ≡ place → HasEachTurn users g ts
       → IsShownState Has a b users place g → Tells Has b c users place g ts → HasSeenAll Has a users start paths → HasSeenAll Has c users start (paths ++ path ∷ [])
   shown-on Has a b c place g ts leads long each reported tells old = record { shown = with_turns made (record s { states = s.states ++ x ∷ [] }); has = r.1.0; are = are }
     where
       s : Shown
       s = old.shown
 
-      x : Sight
-      x = record { place = place; going = g; is_over = reported.is_over }
+      x : SeenState
+      x = record { place = place; run_state = g; is_over = reported.is_over }
 
       r : (made : List Made) × (Has c users (with_turns made (record s { states = s.states ++ x ∷ [] })) × AreShownOf users place g ts made)
       r = tells (record s { states = s.states ++ x ∷ [] }) (reported.sees s old.has)
@@ -182,9 +182,9 @@ module _ (users : List User) (start : Going) (paths : List (List Turn)) (path : 
       mine : AreShownOf users place g ts made
       mine = r.1.1
 
-      state : (i : ℕ) (y : Sight) → (slice_get s.states i ≡ Some y) ⊎ ((i ≡ length s.states) × (y ≡ x)) → IsStateAt users start (paths ++ path ∷ []) i y
+      state : (i : ℕ) (y : SeenState) → (slice_get s.states i ≡ Some y) ⊎ ((i ≡ length s.states) × (y ≡ x)) → IsStateAt users start (paths ++ path ∷ []) i y
       state i y (inl h) = state-more i y (old.are.states i y h)
-      state i y (inr e) = subst (λ (z : Sight). IsStateAt users start (paths ++ path ∷ []) i z) (sym e.1) (record {
+      state i y (inr e) = subst (λ (z : SeenState). IsStateAt users start (paths ++ path ∷ []) i z) (sym e.1) (record {
         place = sym long ∙ sym old.are.long ∙ sym e.0;
         path = path;
         at = subst (λ n. slice_get (paths ++ path ∷ []) n ≡ Some path) (sym (e.0 ∙ old.are.long)) (at-last paths path);
@@ -206,7 +206,7 @@ module _ (users : List User) (start : Going) (paths : List (List Turn)) (path : 
       sided j m (inl h) = inl (j, h)
       sided j m (inr h) = inr h
 
-      all : (i : ℕ) (p : List Turn) (u h : Going) (t : Turn) → (slice_get paths i ≡ Some p) ⊎ ((i ≡ length paths) × (p ≡ path)) → Path (Leads users) start p u → Leads users t u h → IsShown (s.turns ++ made) i t h
+      all : (i : ℕ) (p : List Turn) (u h : RunState) (t : Turn) → (slice_get paths i ≡ Some p) ⊎ ((i ≡ length paths) × (p ≡ path)) → Path (Leads users) start p u → Leads users t u h → IsShown (s.turns ++ made) i t h
       all i p u h t (inl at) way step = shown-more s.turns made i t h (old.are.all i p u h t at way step)
       all i p u h t (inr e) way step =
           let same : u ≡ g = path-one users start path u g (subst (λ ls. Path (Leads users) start ls u) e.1 way) leads in
@@ -226,7 +226,7 @@ module _ (users : List User) (start : Going) (paths : List (List Turn)) (path : 
       }
 
 -- what was reported of the end of a path and of all turns from it
-pub seen-nexts : {W : Type 0} (Has : W → List User → Shown → Type 0) (a b c : W) (users : List User) → (boot : Boot) (path : List Turn) (reported now : Exploring) (place : ℕ) (g : Going) (ts : List Turn)
+pub seen-nexts : {W : Type 0} (Has : W → List User → Shown → Type 0) (a b c : W) (users : List User) → (boot : Boot) (path : List Turn) (reported now : Exploring) (place : ℕ) (g : RunState) (ts : List Turn)
     → Path (Leads users) (beginning users boot) path g → reported.users ≡ users → now.users ≡ users → now.boot ≡ boot
     → HasEachTurn reported.users g ts → IsShownState Has a b users place g → Tells Has b c reported.users place g ts
     → (paths : List (List Turn)) → HasSeenAll Has a users (beginning users boot) paths → length paths ≡ place → HasSeenAll Has c now.users (beginning now.users now.boot) (paths ++ path ∷ [])
@@ -249,36 +249,36 @@ shown-all Has users boot e f a b w paths same_users same_boot same_watch later s
     subst (λ us. HasSeenAll Has b us (beginning us boot) paths) (later.users ∙ same_users) (subst (λ bt. HasSeenAll Has b f.users (beginning f.users bt) paths) (later.boot ∙ same_boot) all)
 
 -- a state more and a turn more in counts, which end with the largest
-ends-more : (ss : List Sight) (s : Sight) → ends_in (ss ++ s ∷ []) ≡ ends_in ss + from_bool s.is_over
+ends-more : (ss : List SeenState) (s : SeenState) → ends_in (ss ++ s ∷ []) ≡ ends_in ss + from_bool s.is_over
 ends-more [] s = alone (from_bool s.is_over)
   where
     alone : (n : ℕ) → n + 0 ≡ 0 + n
     alone n = omega arith
 ends-more (t ∷ ss) s = let more = ends-more ss s in omega (arith, more)
 
-ends-counted : (a b : ℕ) (ss : List Sight) (s : Sight) → a ≡ min (ends_in ss) (2 ^ 64 - 1) → b ≡ min (a + from_bool s.is_over) (2 ^ 64 - 1) → b ≡ min (ends_in (ss ++ s ∷ [])) (2 ^ 64 - 1)
+ends-counted : (a b : ℕ) (ss : List SeenState) (s : SeenState) → a ≡ min (ends_in ss) (2 ^ 64 - 1) → b ≡ min (a + from_bool s.is_over) (2 ^ 64 - 1) → b ≡ min (ends_in (ss ++ s ∷ [])) (2 ^ 64 - 1)
 ends-counted a b ss s old new = let more = ends-more ss s in omega (arith, old, new, more)
 
 turns-counted : (a b : ℕ) (ms : List Made) (m : Made) → a ≡ min (length ms) (2 ^ 64 - 1) → b ≡ min (a + 1) (2 ^ 64 - 1) → b ≡ min (length (ms ++ m ∷ [])) (2 ^ 64 - 1)
 turns-counted a b ms m old new = let more = one-longer ms m in omega (arith, old, new, more)
 
-pub state-counted : {W E : Type 0} (r : Result (Unit {0}) E) (Has : W → List User → Shown → Type 0) (a b : Counting W) (users : List User) (place : ℕ) (g : Going) (over : Bool)
+pub state-counted : {W E : Type 0} (r : Result (Unit {0}) E) (Has : W → List User → Shown → Type 0) (a b : Counting W) (users : List User) (place : ℕ) (g : RunState) (over : Bool)
     → b.turns ≡ a.turns → b.ends ≡ min (a.ends + from_bool over) (2 ^ 64 - 1) → OnOk r (SeesState Has a.watch b.watch users place g over) → OnOk r (SeesState (HasCounted Has) a b users place g over)
 state-counted (Ok x) Has a b users place g over same more sees = λ shown is. record {
   has = sees shown is.has;
   counted = record {
     turns = same ∙ is.counted.turns;
-    ends = ends-counted a.ends b.ends shown.states (record { place = place; going = g; is_over = over }) is.counted.ends more;
+    ends = ends-counted a.ends b.ends shown.states (record { place = place; run_state = g; is_over = over }) is.counted.ends more;
   };
 }
 state-counted (Err e) Has a b users place g over same more sees = sees
 
-pub turn-counted : {W : Type 0} (Has : W → List User → Shown → Type 0) (a b : Counting W) (users : List User) (place : ℕ) (t : Turn) (answer : Answer) (from : List Position) (h : Going)
+pub turn-counted : {W : Type 0} (Has : W → List User → Shown → Type 0) (a b : Counting W) (users : List User) (place : ℕ) (t : Turn) (answer : Answer) (from : List Position) (h : RunState)
     → b.turns ≡ min (a.turns + 1) (2 ^ 64 - 1) → b.ends ≡ a.ends → SeesTurn Has a.watch b.watch users place t answer from h → SeesTurn (HasCounted Has) a b users place t answer from h
 turn-counted Has a b users place t answer from h more same sees = λ shown is. record {
   has = sees shown is.has;
   counted = record {
-    turns = turns-counted a.turns b.turns shown.turns (record { place = place; turn = t; answer = answer; from = from; going = h }) is.counted.turns more;
+    turns = turns-counted a.turns b.turns shown.turns (record { place = place; turn = t; answer = answer; from = from; run_state = h }) is.counted.turns more;
     ends = same ∙ is.counted.ends;
   };
 }
@@ -297,16 +297,16 @@ pub none-counted : {W : Type 0} (Has : W → List User → Shown → Type 0) (w 
 none-counted Has w users has = record { has = has; counted = record { turns = refl; ends = refl } }
 
 -- a state that was reported, and a turn
-pub state-reported : {W E : Type 0} (r : Result (Unit {0}) E) (Has : W → List User → Shown → Type 0) (a b : W) (users : List User) (place : ℕ) (g : Going) (over : Bool)
-    → (over ≡ true → IsOver users g) → (over ≡ false → (h : Going) × Follows users g h) → OnOk r (SeesState Has a b users place g over) → OnOk r (IsShownState Has a b users place g)
+pub state-reported : {W E : Type 0} (r : Result (Unit {0}) E) (Has : W → List User → Shown → Type 0) (a b : W) (users : List User) (place : ℕ) (g : RunState) (over : Bool)
+    → (over ≡ true → IsOver users g) → (over ≡ false → (h : RunState) × Follows users g h) → OnOk r (SeesState Has a b users place g over) → OnOk r (IsShownState Has a b users place g)
 state-reported (Ok x) Has a b users place g over ends goes sees = record { is_over = over; over = over-is users g over ends goes; sees = sees }
 state-reported (Err e) Has a b users place g over ends goes sees = sees
 
-pub turn-reported : {W : Type 0} (Has : W → List User → Shown → Type 0) (a b : W) (users : List User) (place : ℕ) (t : Turn) (g h : Going) (answer : Answer)
+pub turn-reported : {W : Type 0} (Has : W → List User → Shown → Type 0) (a b : W) (users : List User) (place : ℕ) (t : Turn) (g h : RunState) (answer : Answer)
     → Leads users t g h → last_answer h.book ≡ Some answer → SeesTurn Has a b users place t answer g.places h → IsShownTurn Has a b users place t g
 turn-reported Has a b users place t g h answer leads reported sees = record {
   answer = answer;
-  going = h;
+  run_state = h;
   is = record { leads = leads; from = refl; answer = reported };
   sees = sees;
 }

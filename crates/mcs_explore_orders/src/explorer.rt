@@ -1,6 +1,6 @@
 //! The runs of users after a boot, as a system of states with keys.
 ghost use Rattle.std.specs.Prelude.{◌≡◌, ◌++◌, ◌∷◌, [], IfOk, OnOk, IfSome, IfNone, List};
-ghost use Rattle.mcs_turns.specs.Turns.{User, Going, ArePicks, beginning};
+ghost use Rattle.mcs_turns.specs.Turns.{User, RunState, ArePicks, beginning};
 ghost use Rattle.mcs_explore_walk.specs.declared.walk.Turn.{Turn};
 ghost use Rattle.mcs_explore_walk.specs.Walks.{HasEachTurn};
 ghost use Rattle.mcs_explore_orders.specs.Trails.{Leads};
@@ -203,13 +203,13 @@ impl<'a, W: Watch> Explorer<'a, W> {
         requires { ArePicks self.old.search.users walk.value picks.now }
         ensures later { GoesOn W.aim self.old self.new }
         ensures trail { self.new.search.trail ≡ self.old.search.trail }
-        ensures some { IfOk result (λ o. IfSome o (λ k. (h : Going)
+        ensures some { IfOk result (λ o. IfSome o (λ k. (h : RunState)
             × (Leads self.old.search.users turn walk.value h
             × IsKeyIn self.new.search h k.items))) }
         ensures reported { IfOk result (λ o. IfSome o (λ k. IsShownTurn (HasCounted W.HasSeen)
             (counting self.old) (counting self.new) self.old.search.users
             place turn walk.value)) }
-        ensures none { IfOk result (λ o. IfNone o ((h : Going)
+        ensures none { IfOk result (λ o. IfNone o ((h : RunState)
             → Leads self.old.search.users turn walk.value h → ⊥)) }
         ensures unseen { IfOk result (λ o. IfNone o (counting self.new ≡ counting self.old)) }
     {
@@ -368,7 +368,7 @@ fn push(nexts: &mut Vec<(PackedTurn, Key)>, next: (PackedTurn, Key)) -> Result<(
 
 impl<'a, W: Watch> System for Explorer<'a, W> {
     ghost use Rattle.std.specs.Prelude.{◌≡◌};
-    ghost use Rattle.mcs_turns.specs.Turns.{Going, beginning};
+    ghost use Rattle.mcs_turns.specs.Turns.{RunState, beginning};
     ghost use Rattle.mcs_explore_orders.specs.Trails.{Leads};
     ghost use Rattle.mcs_explore_orders.specs.Exploring.{IsKeyIn, LooksLike};
     ghost use Rattle.mcs_explore_orders.specs.Shown.{HasCounted, HasSeenAll};
@@ -381,7 +381,7 @@ impl<'a, W: Watch> System for Explorer<'a, W> {
 
     type Fault = OrdersFault;
 
-    ghost State = { Going };
+    ghost State = { RunState };
 
     ghost start = { λ e. beginning e.search.users e.search.boot };
 

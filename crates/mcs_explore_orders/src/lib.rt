@@ -10,9 +10,9 @@
 #![tactic(auto)]
 
 mod explorer;
-mod following;
 mod nobody;
 mod packed;
+mod replay;
 mod search;
 mod trail;
 

@@ -1,6 +1,6 @@
 //! The search, nearest states first.
 ghost use Rattle.std.specs.Prelude.{ℕ, true, ◌≡◌, ◌≤◌, ◌-◌, ◌⊎◌, ◌↔◌, IsTrue, IfOk, OnOk, length};
-ghost use Rattle.mcs_turns.specs.Turns.{Going, beginning};
+ghost use Rattle.mcs_turns.specs.Turns.{RunState, beginning};
 ghost use Rattle.mcs_explore_equivalence.specs.Runs.{IsReached};
 ghost use Rattle.mcs_explore_search.specs.Paths.{Path};
 ghost use Rattle.mcs_explore_search.specs.Reaching.{AreWithin};
@@ -11,8 +11,8 @@ ghost use Rattle.mcs_explore_orders.specs.Trails.{Leads};
 ghost use Rattle.mcs_explore_orders.specs.Watching.{counting};
 
 use crate::explorer::{Explorer, Watch};
-use crate::following::follow;
 use crate::packed::{PackedTurn, unpacked};
+use crate::replay::follow;
 use mcs_explore_keys::Key;
 use mcs_explore_search::{Budget, Edge, Search};
 use mcs_explore_walk::{OrdersFault, Turn, Users, Walk};
@@ -49,7 +49,7 @@ pub fn retrace<L: Lines>(
 ) -> Result<Walk<L>, OrdersFault>
     ensures reached { IfOk result (λ walk. IsReached users.now boot.now walk) }
     // the result is the state that the path leads to, if the path is possible
-    ensures path { IfOk result (λ walk. (g : Going)
+    ensures path { IfOk result (λ walk. (g : RunState)
         → Path (Leads users.now) (beginning users.now boot.now) turns.now g → walk ≡ g) }
 {
     let mut walk = Walk::new(alloc, boot, users)?;

@@ -1,12 +1,12 @@
 //! A cache of states along a path of turns, so that the next state need not be replayed from the
 //! boot.
 ghost use Rattle.std.specs.Prelude.{List, IfOk, ◌≡◌, ◌≤◌, ◌+◌, ◌∷◌, ◌++◌, [], true, OnOk, OnErr, length, take};
-ghost use Rattle.mcs_turns.specs.Turns.{User, Going};
+ghost use Rattle.mcs_turns.specs.Turns.{User, RunState};
 ghost use Rattle.mcs_explore_search.specs.Paths.{Path};
 ghost use Rattle.mcs_explore_orders.specs.Trails.{Adds, IsTrail, Leads, last_point, turns_of};
 
-use crate::following::follow;
 use crate::packed::{PackedTurn, unpacked};
+use crate::replay::follow;
 use mcs_explore_walk::{OrdersFault, Turn, Users, Walk};
 use mcs_queues::PlainLines;
 use mcs_types::OutOfMemory;
@@ -29,7 +29,7 @@ impl Model for Stage {
 
     ghost Value = { Point };
 
-    ghost view = { λ s. record { turns = s.turns.items; going = s.walk.value } };
+    ghost view = { λ s. record { turns = s.turns.items; run_state = s.walk.value } };
 }
 
 /// The state where a path begins, and states cached along it. Walks that are no longer needed are
@@ -248,7 +248,7 @@ impl PathCache {
     /// Makes some turns, which the rule must allow, and caches the state after them. `BookFull` or
     /// `OutOfMemory`: then nothing changed.
     fn step(&mut self, alloc: Global, users: &Users, turns: &[Turn]) -> Result<(), OrdersFault>
-        requires { (h : Going)
+        requires { (h : RunState)
             × Path (Leads users.now) (last_point self.old.start self.old.points) turns.now h }
         ensures added { OnOk result (Adds users.now turns.now self.old self.new) }
         ensures unchanged { OnErr result (self.new ≡ self.old) }
@@ -271,7 +271,7 @@ impl PathCache {
         most: usize,
     ) -> Result<usize, OrdersFault>
         requires trail { IsTrail users.now self.old.start self.old.points }
-        requires path { (s : Going) × Path (Leads users.now) self.old.start path.now s }
+        requires path { (s : RunState) × Path (Leads users.now) self.old.start path.now s }
         ensures start { self.new.start ≡ self.old.start }
         ensures trail { IsTrail users.now self.new.start self.new.points }
         ensures within { IfOk result (λ n. n ≤ length path.now) }
@@ -299,7 +299,7 @@ impl PathCache {
         next: &[PackedTurn],
     ) -> Result<Box<Walk<PlainLines>>, OrdersFault>
         requires trail { IsTrail users.now self.old.start self.old.points }
-        requires path { (s : Going) × Path (Leads users.now) self.old.start path.now s }
+        requires path { (s : RunState) × Path (Leads users.now) self.old.start path.now s }
         ensures start { self.new.start ≡ self.old.start }
         ensures trail { IsTrail users.now self.new.start self.new.points }
         ensures walk { IfOk result (λ w. Path (Leads users.now) self.old.start path.now w.value) }

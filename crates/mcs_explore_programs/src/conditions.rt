@@ -1,6 +1,6 @@
 //! Conditions: tests with `and` between them.
+use crate::alternatives::Word;
 use crate::fault::ProgramFault;
-use crate::naming::Word;
 use crate::slots::Slots;
 use crate::statement::Statement;
 use crate::values::{read_value, source_of};

@@ -1,8 +1,8 @@
 //! The entries of a program: how they are read, with the values in their messages.
+use crate::alternatives::Word;
 use crate::code::{Code, Filled, ProgramEntry};
 use crate::fault::ProgramFault;
 use crate::keywords::label_place;
-use crate::naming::Word;
 use crate::slots::Slots;
 use crate::statement::{Statement, hexadecimal};
 use crate::values::source_of;

@@ -1,5 +1,5 @@
 //! Why a program is refused.
-use crate::naming::{Listed, Word};
+use crate::alternatives::{Listed, Word};
 use mcs_text::LineFault;
 use mcs_types::OutOfMemory;
 use std::alloc::{AllocError, AllocFailed};

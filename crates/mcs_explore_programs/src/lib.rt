@@ -13,20 +13,20 @@
 //! ```
 #![tactic(auto)]
 
+mod alternatives;
 mod blocks;
 mod code;
 mod conditions;
 mod entries;
 mod fault;
 mod keywords;
-mod naming;
 mod program;
 mod rounds;
 mod slots;
 mod statement;
 mod values;
 
+pub use alternatives::{Listed, Word};
 pub use code::ProgramEntry;
 pub use fault::{FaultyLine, ProgramFault};
-pub use naming::{Listed, Word};
 pub use program::{DEPTH, Label, Program, ProgramLines};

@@ -1,13 +1,13 @@
 //! A program of a thread, statement by statement.
 ghost use Rattle.std.specs.Prelude.{◌<◌, IfOk, length};
 
+use crate::alternatives::Word;
 use crate::blocks::{Arms, Block, Counter, Round, RoundHead, Shape};
 use crate::code::{Code, END, ProgramEntry};
 use crate::conditions::read_condition;
 use crate::entries::read_entry;
 use crate::fault::{FaultyLine, ProgramFault};
 use crate::keywords::{Change, KEYWORDS, Keyword, is_entry, is_kept_name, is_name};
-use crate::naming::Word;
 use crate::rounds::goes_round;
 use crate::slots::Slots;
 use crate::statement::Statement;

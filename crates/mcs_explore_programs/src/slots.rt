@@ -1,6 +1,6 @@
 //! The kept words of a program: each has a slot for the duration of its block or its entry.
+use crate::alternatives::{Listed, Word};
 use crate::fault::ProgramFault;
-use crate::naming::{Listed, Word};
 use mcs_turns::Slot;
 use std::alloc::{AllocError, Global};
 

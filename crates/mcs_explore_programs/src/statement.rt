@@ -1,8 +1,8 @@
 //! The words of a statement, and the numbers that they write.
 ghost use Rattle.std.specs.Prelude.{◌≤◌};
 
+use crate::alternatives::Word;
 use crate::fault::ProgramFault;
-use crate::naming::Word;
 use std::alloc::{AllocError, Global};
 
 /// A statement whose words are taken one by one.

@@ -1,6 +1,6 @@
 -- Spans, and those after them, each after `and`.
 use Rattle.std.proofs.Common.{◌≡◌, ◌+◌, ◌<◌, ◌≤◌, ℕ, zero, suc, Bool, true, false, List, [], ◌∷◌, ◌++◌, length, Option, Some, None, refl, sym, ap, ◌∙◌, arith}
-use Rattle.mcs_explore_questions.specs.declared.asking.Span.{Span}
+use Rattle.mcs_explore_questions.specs.declared.questions.Span.{Span}
 use Rattle.mcs_explore_questions.specs.Reading.{◌>>=◌, has_words}
 use Rattle.mcs_explore_questions.specs.Questions.{AddsSpan, and_span, spans_from}
 use Rattle.mcs_explore_questions.specs.There.{Scene}

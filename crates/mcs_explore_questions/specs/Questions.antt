@@ -5,17 +5,17 @@ use Rattle.mcs_turns.specs.Turns.{User, is_program}
 use Rattle.mcs_turns.specs.declared.position.Schedule.{Schedule}
 use Rattle.mcs_turns.specs.declared.position.Schedule.TheVariants as schedule
 use Rattle.mcs_lab_forms.specs.Numbers.{number_of}
-use Rattle.mcs_explore_questions.specs.declared.asking.Asked.{Asked}
-use Rattle.mcs_explore_questions.specs.declared.asking.Asked.TheVariants as asked
-use Rattle.mcs_explore_questions.specs.declared.asking.Entries.{Entries}
-use Rattle.mcs_explore_questions.specs.declared.asking.Event.{Event}
-use Rattle.mcs_explore_questions.specs.declared.asking.Rule.{Rule}
-use Rattle.mcs_explore_questions.specs.declared.asking.Rule.TheVariants as rule
-use Rattle.mcs_explore_questions.specs.declared.asking.Span.{Span}
-use Rattle.mcs_explore_questions.specs.declared.asking.Until.{Until}
-use Rattle.mcs_explore_questions.specs.declared.asking.Until.TheVariants as until
-use Rattle.mcs_explore_questions.specs.declared.reading.Ends.{Ends}
-use Rattle.mcs_explore_questions.specs.declared.reading.Range.{Range}
+use Rattle.mcs_explore_questions.specs.declared.questions.Asked.{Asked}
+use Rattle.mcs_explore_questions.specs.declared.questions.Asked.TheVariants as asked
+use Rattle.mcs_explore_questions.specs.declared.questions.Entries.{Entries}
+use Rattle.mcs_explore_questions.specs.declared.questions.Event.{Event}
+use Rattle.mcs_explore_questions.specs.declared.questions.Rule.{Rule}
+use Rattle.mcs_explore_questions.specs.declared.questions.Rule.TheVariants as rule
+use Rattle.mcs_explore_questions.specs.declared.questions.Span.{Span}
+use Rattle.mcs_explore_questions.specs.declared.questions.Until.{Until}
+use Rattle.mcs_explore_questions.specs.declared.questions.Until.TheVariants as until
+use Rattle.mcs_explore_questions.specs.declared.parser.Ends.{Ends}
+use Rattle.mcs_explore_questions.specs.declared.parser.Range.{Range}
 use Rattle.mcs_explore_questions.specs.declared.forms.Lines.{Lines}
 use Rattle.mcs_explore_questions.specs.declared.forms.Lines.TheVariants as lines
 use Rattle.mcs_explore_questions.specs.Forms.{pattern_of}

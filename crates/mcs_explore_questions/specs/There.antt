@@ -15,8 +15,8 @@ use Rattle.mcs_lab_check.specs.declared.names.Named.{Named}
 use Rattle.mcs_lab_check.specs.declared.names.Named.TheVariants as named
 use Rattle.mcs_lab_forms.specs.Numbers.{number_of}
 use Rattle.mcs_explore_programs.specs.declared.program.Label.{Label}
-use Rattle.mcs_explore_questions.specs.declared.asking.Entries.{Entries}
-use Rattle.mcs_explore_questions.specs.declared.asking.Event.{Event}
+use Rattle.mcs_explore_questions.specs.declared.questions.Entries.{Entries}
+use Rattle.mcs_explore_questions.specs.declared.questions.Event.{Event}
 use Rattle.mcs_explore_questions.specs.declared.there.There.{There}
 use Rattle.mcs_explore_questions.specs.Reading.{◌>>=◌, ◌>>◌, either, need}
 

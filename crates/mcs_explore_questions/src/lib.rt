@@ -10,16 +10,16 @@
 //! ```
 #![tactic(auto)]
 
-mod asking;
 mod fault;
 mod forms;
+mod parser;
 mod patterns;
-mod reading;
+mod questions;
 mod there;
 mod words;
 
-pub use asking::{Asked, Entries, Event, Rule, Span, Until};
 pub use fault::{ExploreFault, QuestionFault};
+pub use parser::{asked_of, comes_once, goes_on_once, question_of};
 pub use patterns::is_match;
-pub use reading::{asked_of, comes_once, goes_on_once, question_of};
+pub use questions::{Asked, Entries, Event, Rule, Span, Until};
 pub use there::{There, id_text};

@@ -5,8 +5,8 @@ ghost use Rattle.mcs_text.specs.Spelling.{name_text};
 ghost use Rattle.mcs_explore_questions.specs.Reading.{Refuses, is_of_memory};
 ghost use Rattle.mcs_explore_questions.specs.There.{can_be, is_made_later, made, makes, makes_objects, user_makes_object, entries_by, entry_at, entry_by, event_of, is_label, labelled, named_by, numbered, object_by, scene_of, user_by, user_of};
 
-use crate::asking::{Entries, Event};
 use crate::fault::QuestionFault;
+use crate::questions::{Entries, Event};
 use mcs_explore_programs::{Label, Listed, ProgramFault, Word};
 use mcs_lab_check::{Labels, Named, object_of};
 use mcs_lab_forms::number_of;

@@ -2,9 +2,9 @@
 -- together.
 use Rattle.std.specs.Prelude.{ℕ, ◌≡◌, ◌<◌, ◌+◌, ◌⊎◌, false, List, Option, Some, None, length, slice_get}
 use Rattle.std.proofs.Common.{ap, sym, ◌∙◌, inl, inr, arith}
-use Rattle.mcs_explore_questions.specs.declared.asking.Event.{Event}
+use Rattle.mcs_explore_questions.specs.declared.questions.Event.{Event}
 use Rattle.mcs_explore_report.specs.declared.answers.Witness.{Witness}
-use Rattle.mcs_explore_report.specs.declared.judging.Sighting.{Sighting}
+use Rattle.mcs_explore_report.specs.declared.judgement.Sighting.{Sighting}
 use Rattle.mcs_explore_report.specs.Ends.{Kind}
 use Rattle.mcs_explore_report.specs.Verdicts.{HasEach, IsAlways, IsEndSearched, IsFoundIn, IsNotIn, lacks}
 use Rattle.mcs_explore_report.proofs.Lists.{same-or-not, some-same}

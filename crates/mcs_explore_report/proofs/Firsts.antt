@@ -4,13 +4,13 @@ use Rattle.std.proofs.Common.{refl, ap, sym, ◌∙◌, subst, inl, inr, arith}
 use Rattle.mcs_types.specs.declared.entry.Answer.{Answer}
 use Rattle.mcs_turns.specs.declared.position.Position.{Position}
 use Rattle.mcs_turns.specs.declared.position.Pick.{Pick}
-use Rattle.mcs_turns.specs.Turns.{User, Going}
+use Rattle.mcs_turns.specs.Turns.{User, RunState}
 use Rattle.mcs_explore_walk.specs.declared.walk.Turn.{Turn}
-use Rattle.mcs_explore_orders.specs.Shown.{Made, Shown, Sight, with_state, with_turn}
+use Rattle.mcs_explore_orders.specs.Shown.{Made, Shown, SeenState, with_state, with_turn}
 use Rattle.mcs_explore_report.specs.declared.answers.Witness.{Witness}
 use Rattle.mcs_turns.specs.declared.reached.Reached.{Reached}
 use Rattle.mcs_explore_script.specs.declared.questions.AskedLine.{AskedLine}
-use Rattle.mcs_explore_report.specs.declared.judging.Sighting.{Sighting}
+use Rattle.mcs_explore_report.specs.declared.judgement.Sighting.{Sighting}
 use Rattle.mcs_explore_report.specs.Answers.{AreAnswersOf, AreMailOf, AreNotedMail, IsAmong, IsNoted, IsNotedFor, IsNotedOf, IsNotedTurn, Tables, mailed_to, table_of}
 use Rattle.mcs_explore_report.specs.Ends.{AreEndsOf, IsKindAt, IsNoted as IsEndNoted, IsNotedIf, Kind}
 use Rattle.mcs_explore_report.specs.Firsts.{AreFirstAnswers, AreFirstEnds, AreFirstFailures, HasGiven, IsStateBefore, IsTurnBefore}
@@ -22,17 +22,17 @@ use Rattle.mcs_explore_report.proofs.Lists.{at-last, at-old, at-split, at-within
 use Rattle.mcs_explore_report.proofs.Noting.{counted-back}
 use Rattle.mcs_explore_report.proofs.Telling.{Grows, for-grows, table-was, turn-grows}
 
-state-more : (states more : List Sight) (place j : ℕ) → IsStateBefore states place j → IsStateBefore (states ++ more) place j
+state-more : (states more : List SeenState) (place j : ℕ) → IsStateBefore states place j → IsStateBefore (states ++ more) place j
 state-more states more place j b = record { number = b.number; sight = b.sight; at = at-old states more b.number b.sight b.at; there = b.there; before = b.before }
 
 turn-more : (turns more : List Made) (place j : ℕ) → IsTurnBefore turns place j → IsTurnBefore (turns ++ more) place j
 turn-more turns more place j b = record { number = b.number; made = b.made; at = at-old turns more b.number b.made b.at; there = b.there; before = b.before }
 
 -- what was shown before has a place before what is shown last
-state-last : (states : List Sight) (s : Sight) (place number j : ℕ) (x : Sight) → slice_get states number ≡ Some x → x.place ≡ place → j ≡ length states → IsStateBefore (states ++ s ∷ []) place j
+state-last : (states : List SeenState) (s : SeenState) (place number j : ℕ) (x : SeenState) → slice_get states number ≡ Some x → x.place ≡ place → j ≡ length states → IsStateBefore (states ++ s ∷ []) place j
 state-last states s place number j x at is last = let lt = at-within states number x at in record { number = number; sight = x; at = at-old states (s ∷ []) number x at; there = is; before = omega (arith, lt, last) }
 
-state-here : (states : List Sight) (s : Sight) (place j : ℕ) → s.place ≡ place → j ≡ length states → IsStateBefore (states ++ s ∷ []) place j
+state-here : (states : List SeenState) (s : SeenState) (place j : ℕ) → s.place ≡ place → j ≡ length states → IsStateBefore (states ++ s ∷ []) place j
 state-here states s place j is last = record { number = length states; sight = s; at = at-last states s; there = is; before = omega (arith, last) }
 
 turn-last : (turns : List Made) (m : Made) (place number j : ℕ) (x : Made) → slice_get turns number ≡ Some x → x.place ≡ place → j ≡ length turns → IsTurnBefore (turns ++ m ∷ []) place j
@@ -43,19 +43,19 @@ turn-here turns m place j is last = record { number = length turns; made = m; at
 
 -- ends
 
-module _ (users : List User) (states : List Sight) (old new : List Kind) (place : ℕ) (g : Going) (over : Bool) (are : AreEndsOf users states old) (first : AreFirstEnds users states old) where
-  abbrev sight : Sight
-  sight = record { place = place; going = g; is_over = over }
+module _ (users : List User) (states : List SeenState) (old new : List Kind) (place : ℕ) (g : RunState) (over : Bool) (are : AreEndsOf users states old) (first : AreFirstEnds users states old) where
+  abbrev sight : SeenState
+  sight = record { place = place; run_state = g; is_over = over }
 
   -- a kind that was kept before
-  end-old : (i j : ℕ) (k l : Kind) (s : Sight) → slice_get old i ≡ Some l → l.standing ≡ k.standing → l.place ≡ k.place → s.is_over ≡ true → standings users s.going ≡ k.standing
+  end-old : (i j : ℕ) (k l : Kind) (s : SeenState) → slice_get old i ≡ Some l → l.standing ≡ k.standing → l.place ≡ k.place → s.is_over ≡ true → standings users s.run_state ≡ k.standing
       → (slice_get states j ≡ Some s) ⊎ ((j ≡ length states) × (s ≡ sight)) → IsStateBefore (states ++ sight ∷ []) k.place j
   end-old i j k l s at same same_place is_over stands (inl there) =
       subst (λ p. IsStateBefore (states ++ sight ∷ []) p j) same_place (state-more states (sight ∷ []) l.place j (first i j l s at there is_over (stands ∙ sym same)))
   end-old i j k l s at same same_place is_over stands (inr e) = let x = are.each i l at in state-last states sight k.place x.number j x.sight x.at (x.place ∙ same_place) e.0
 
   -- one that is new
-  end-new : (j : ℕ) (s : Sight) → ((i : ℕ) → IsKindAt old (standings users g) i → ⊥) → s.is_over ≡ true → standings users s.going ≡ standings users g
+  end-new : (j : ℕ) (s : SeenState) → ((i : ℕ) → IsKindAt old (standings users g) i → ⊥) → s.is_over ≡ true → standings users s.run_state ≡ standings users g
       → (slice_get states j ≡ Some s) ⊎ ((j ≡ length states) × (s ≡ sight)) → IsStateBefore (states ++ sight ∷ []) place j
   end-new j s none is_over stands (inl there) = let k = are.all j s there is_over in absurd (none k.0 (subst (λ ss. IsKindAt old ss k.0) stands k.1))
   end-new j s none is_over stands (inr e) = state-here states sight place j refl e.0
@@ -72,7 +72,7 @@ module _ (users : List User) (states : List Sight) (old new : List Kind) (place 
       none : (i : ℕ) → IsKindAt old (standings users g) i → ⊥
       none i k = f.none i k.kind (at-within old i k.kind k.at) k.at k.same
 
-      go : (i j : ℕ) (k : Kind) (s : Sight) → s.is_over ≡ true → standings users s.going ≡ k.standing → (slice_get states j ≡ Some s) ⊎ ((j ≡ length states) × (s ≡ sight)) → (slice_get old i ≡ Some k) ⊎ ((i ≡ length old) × (k ≡ kind))
+      go : (i j : ℕ) (k : Kind) (s : SeenState) → s.is_over ≡ true → standings users s.run_state ≡ k.standing → (slice_get states j ≡ Some s) ⊎ ((j ≡ length states) × (s ≡ sight)) → (slice_get old i ≡ Some k) ⊎ ((i ≡ length old) × (k ≡ kind))
           → IsStateBefore (states ++ sight ∷ []) k.place j
       go i j k s is_over stands there (inl h) = end-old i j k k s h refl refl is_over stands there
       go i j k s is_over stands there (inr e) =
@@ -81,7 +81,7 @@ module _ (users : List User) (states : List Sight) (old new : List Kind) (place 
   pub ends-first : IsNotedIf over (standings users g) place old new → AreFirstEnds users (states ++ sight ∷ []) new
   ends-first (inl same) = λ i j k s at there is_over stands. go i j k s (ap (λ (ks : List Kind). slice_get ks i) (sym same.1) ∙ at) is_over stands (at-split states sight j s there)
     where
-      go : (i j : ℕ) (k : Kind) (s : Sight) → slice_get old i ≡ Some k → s.is_over ≡ true → standings users s.going ≡ k.standing → (slice_get states j ≡ Some s) ⊎ ((j ≡ length states) × (s ≡ sight)) → IsStateBefore (states ++ sight ∷ []) k.place j
+      go : (i j : ℕ) (k : Kind) (s : SeenState) → slice_get old i ≡ Some k → s.is_over ≡ true → standings users s.run_state ≡ k.standing → (slice_get states j ≡ Some s) ⊎ ((j ≡ length states) × (s ≡ sight)) → IsStateBefore (states ++ sight ∷ []) k.place j
       go i j k s at is_over stands there = end-old i j k k s at refl refl is_over stands there
   ends-first (inr noted) = end-noted noted.1
 
@@ -139,10 +139,10 @@ mail-comes users from place t (r ∷ rs) old new (mid, (one, rest)) =
     (mail-comes users from place t rs mid new rest)
 
 module _ (users : List User) (turns : List Made) (m : Made) (old mid new : Tables) (own : IsNotedTurn (record { answer = m.answer; place = m.place; turn = m.turn }) old mid)
-    (mail : AreNotedMail users m.from m.place m.turn (brought m.going.book) mid new) (are : AreAnswersOf users turns old) (are_mail : AreMailOf users turns old) (first : AreFirstAnswers users turns old) where
+    (mail : AreNotedMail users m.from m.place m.turn (brought m.run_state.book) mid new) (are : AreAnswersOf users turns old) (are_mail : AreMailOf users turns old) (first : AreFirstAnswers users turns old) where
   comes : Comes old new m.place
   comes = comes-on old mid new m.place (turn-grows (record { answer = m.answer; place = m.place; turn = m.turn }) old mid own) (turn-comes (record { answer = m.answer; place = m.place; turn = m.turn }) old mid own)
-      (mail-comes users m.from m.place m.turn (brought m.going.book) mid new mail)
+      (mail-comes users m.from m.place m.turn (brought m.run_state.book) mid new mail)
 
   -- what a turn gave that was shown before was kept
   was-kept : (a b j : ℕ) (before : List Witness) (n : Made) (x : Answer) → table_of old a b ≡ Some before → slice_get turns j ≡ Some n → HasGiven users n a b x → IsAmong before x
@@ -168,16 +168,16 @@ new-failure true seen other e = some-same seen other e
 new-failure false seen other e = absurd cc
 
 -- where it had, it is kept so
-module _ (users : List User) (questions : List AskedLine) (shown : Shown) (seen : Sighting) (g : Going) (before after : List (Option Sighting)) (by : AreJudgedBy users questions seen g before after) where
+module _ (users : List User) (questions : List AskedLine) (shown : Shown) (seen : Sighting) (g : RunState) (before after : List (Option Sighting)) (by : AreJudgedBy users questions seen g before after) where
   was : (i : ℕ) (q : AskedLine) (other : Sighting) → slice_get questions i ≡ Some q → slice_get after i ≡ Some (Some other) → (f : Option Sighting) × ((slice_get before i ≡ Some f) × (judged users q.asked seen g f ≡ Some other))
   was i q other asks at =
       let f = within-at before i (let lt = at-within after i (Some other) at in let long = by.long in omega (arith, lt, long)) in
       (f.0, (f.1, some-same (judged users q.asked seen g f.0) (Some other) (sym (by.each i q f.0 asks f.1) ∙ at)))
 
-module _ (users : List User) (questions : List AskedLine) (shown : Shown) (place : ℕ) (g : Going) (over : Bool) (before after : List (Option Sighting)) (by : AreJudgedBy users questions (record { place = place; turn = None }) g before after)
+module _ (users : List User) (questions : List AskedLine) (shown : Shown) (place : ℕ) (g : RunState) (over : Bool) (before after : List (Option Sighting)) (by : AreJudgedBy users questions (record { place = place; turn = None }) g before after)
     (are : AreJudged users questions shown before) (first : AreFirstFailures users questions shown before) where
-  abbrev look : Sight
-  look = record { place = place; going = g; is_over = over }
+  abbrev look : SeenState
+  look = record { place = place; run_state = g; is_over = over }
 
   pub state-failures : AreFirstFailures users questions (with_state place g over shown) after
   state-failures = record {
@@ -189,7 +189,7 @@ module _ (users : List User) (questions : List AskedLine) (shown : Shown) (place
         turns i j p t q m asks there fails_it w.0 w.1.0 w.1.1;
   }
     where
-      states : (i j p : ℕ) (q : AskedLine) (s : Sight) → slice_get questions i ≡ Some q → fails users q.asked None s.going ≡ true → (f : Option Sighting) → slice_get before i ≡ Some f
+      states : (i j p : ℕ) (q : AskedLine) (s : SeenState) → slice_get questions i ≡ Some q → fails users q.asked None s.run_state ≡ true → (f : Option Sighting) → slice_get before i ≡ Some f
           → judged users q.asked (record { place = place; turn = None }) g f ≡ Some (record { place = p; turn = None }) → (slice_get shown.states j ≡ Some s) ⊎ ((j ≡ length shown.states) × (s ≡ look)) → IsStateBefore (shown.states ++ look ∷ []) p j
       states i j p q s asks fails_it (Some b) at is (inl there) =
           state-more shown.states (look ∷ []) p j (first.states i j p q s asks (at ∙ ap (λ (o : Option Sighting). Some o) is) there fails_it)
@@ -200,16 +200,16 @@ module _ (users : List User) (questions : List AskedLine) (shown : Shown) (place
       states i j p q s asks fails_it None at is (inr e) =
           state-here shown.states look p j (ap (λ (x : Sighting). x.place) (new-failure (fails users q.asked None g) (record { place = place; turn = None }) (record { place = p; turn = None }) is)) e.0
 
-      turns : (i j p : ℕ) (t : Turn) (q : AskedLine) (m : Made) → slice_get questions i ≡ Some q → slice_get shown.turns j ≡ Some m → fails users q.asked (Some m.turn) m.going ≡ true → (f : Option Sighting) → slice_get before i ≡ Some f
+      turns : (i j p : ℕ) (t : Turn) (q : AskedLine) (m : Made) → slice_get questions i ≡ Some q → slice_get shown.turns j ≡ Some m → fails users q.asked (Some m.turn) m.run_state ≡ true → (f : Option Sighting) → slice_get before i ≡ Some f
           → judged users q.asked (record { place = place; turn = None }) g f ≡ Some (record { place = p; turn = Some t }) → IsTurnBefore shown.turns p j
       turns i j p t q m asks there fails_it (Some b) at is = first.turns i j p t q m asks (at ∙ ap (λ (o : Option Sighting). Some o) is) there fails_it
       turns i j p t q m asks there fails_it None at is =
           let no = ap (λ (x : Sighting). x.turn) (new-failure (fails users q.asked None g) (record { place = place; turn = None }) (record { place = p; turn = Some t }) is) in absurd cc
 
-module _ (users : List User) (questions : List AskedLine) (shown : Shown) (place : ℕ) (u : Turn) (a : Answer) (from : List Position) (h : Going) (before after : List (Option Sighting)) (by : AreJudgedBy users questions (record { place = place; turn = Some u }) h before after)
+module _ (users : List User) (questions : List AskedLine) (shown : Shown) (place : ℕ) (u : Turn) (a : Answer) (from : List Position) (h : RunState) (before after : List (Option Sighting)) (by : AreJudgedBy users questions (record { place = place; turn = Some u }) h before after)
     (are : AreJudged users questions shown before) (first : AreFirstFailures users questions shown before) where
   abbrev made : Made
-  made = record { place = place; turn = u; answer = a; from = from; going = h }
+  made = record { place = place; turn = u; answer = a; from = from; run_state = h }
 
   pub turn-failures : AreFirstFailures users questions (with_turn place u a from h shown) after
   turn-failures = record {
@@ -221,13 +221,13 @@ module _ (users : List User) (questions : List AskedLine) (shown : Shown) (place
         turns i j p t q m asks fails_it w.0 w.1.0 w.1.1 (at-split shown.turns made j m there);
   }
     where
-      states : (i j p : ℕ) (q : AskedLine) (s : Sight) → slice_get questions i ≡ Some q → slice_get shown.states j ≡ Some s → fails users q.asked None s.going ≡ true → (f : Option Sighting) → slice_get before i ≡ Some f
+      states : (i j p : ℕ) (q : AskedLine) (s : SeenState) → slice_get questions i ≡ Some q → slice_get shown.states j ≡ Some s → fails users q.asked None s.run_state ≡ true → (f : Option Sighting) → slice_get before i ≡ Some f
           → judged users q.asked (record { place = place; turn = Some u }) h f ≡ Some (record { place = p; turn = None }) → IsStateBefore shown.states p j
       states i j p q s asks there fails_it (Some b) at is = first.states i j p q s asks (at ∙ ap (λ (o : Option Sighting). Some o) is) there fails_it
       states i j p q s asks there fails_it None at is =
           let no = ap (λ (x : Sighting). x.turn) (new-failure (fails users q.asked (Some u) h) (record { place = place; turn = Some u }) (record { place = p; turn = None }) is) in absurd cc
 
-      turns : (i j p : ℕ) (t : Turn) (q : AskedLine) (m : Made) → slice_get questions i ≡ Some q → fails users q.asked (Some m.turn) m.going ≡ true → (f : Option Sighting) → slice_get before i ≡ Some f
+      turns : (i j p : ℕ) (t : Turn) (q : AskedLine) (m : Made) → slice_get questions i ≡ Some q → fails users q.asked (Some m.turn) m.run_state ≡ true → (f : Option Sighting) → slice_get before i ≡ Some f
           → judged users q.asked (record { place = place; turn = Some u }) h f ≡ Some (record { place = p; turn = Some t }) → (slice_get shown.turns j ≡ Some m) ⊎ ((j ≡ length shown.turns) × (m ≡ made)) → IsTurnBefore (shown.turns ++ made ∷ []) p j
       turns i j p t q m asks fails_it (Some b) at is (inl there) =
           turn-more shown.turns (made ∷ []) p j (first.turns i j p t q m asks (at ∙ ap (λ (o : Option Sighting). Some o) is) there fails_it)

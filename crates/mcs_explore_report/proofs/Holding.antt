@@ -5,23 +5,23 @@ use Rattle.std.proofs.Common.{refl, ap, sym, ◌∙◌, subst, inl, inr, arith}
 use Rattle.std.proofs.lemmas.Bool.{and_parts}
 use Rattle.mcs_types.specs.declared.entry.Answer.{Answer}
 use Rattle.mcs_book.specs.Boots.{Boot}
-use Rattle.mcs_turns.specs.Turns.{User, Going, IsOver, IsRun, beginning}
+use Rattle.mcs_turns.specs.Turns.{User, RunState, IsOver, IsRun, beginning}
 use Rattle.mcs_explore_search.specs.declared.search.Edge.{Edge}
 use Rattle.mcs_explore_search.specs.Search.{Entries, path_of}
 use Rattle.mcs_explore_search.proofs.Paths.{path-run}
 use Rattle.mcs_explore_walk.specs.declared.walk.Turn.{Turn}
 use Rattle.mcs_explore_orders.specs.Trails.{Leads}
 use Rattle.mcs_explore_orders.proofs.Whole.{steps-run}
-use Rattle.mcs_explore_questions.specs.declared.asking.Asked.{Asked}
-use Rattle.mcs_explore_questions.specs.declared.asking.Asked.TheVariants as asked
-use Rattle.mcs_explore_questions.specs.declared.asking.Event.{Event}
+use Rattle.mcs_explore_questions.specs.declared.questions.Asked.{Asked}
+use Rattle.mcs_explore_questions.specs.declared.questions.Asked.TheVariants as asked
+use Rattle.mcs_explore_questions.specs.declared.questions.Event.{Event}
 use Rattle.mcs_explore_questions.specs.Asking.{is_question}
 use Rattle.mcs_explore_script.specs.declared.questions.AskedLine.{AskedLine}
 use Rattle.mcs_explore_script.specs.declared.lives.Live.{Live}
 use Rattle.mcs_explore_script.specs.declared.script.UserScript.{UserScript}
 use Rattle.mcs_explore_script.specs.UserLists.{user_of}
 use Rattle.mcs_explore_report.specs.declared.answers.Witness.{Witness}
-use Rattle.mcs_explore_report.specs.declared.judging.Sighting.{Sighting}
+use Rattle.mcs_explore_report.specs.declared.judgement.Sighting.{Sighting}
 use Rattle.mcs_explore_report.specs.declared.verdicts.Verdict.{Verdict}
 use Rattle.mcs_explore_report.specs.Answers.{Tables, table_of}
 use Rattle.mcs_explore_report.specs.Endings.{are_idle}
@@ -50,13 +50,13 @@ is-or false true other = absurd (other refl)
 is-or false false other = refl
 
 -- a state at the end of a path is that of a run
-pub at-run : {K : Type 0} (users : List User) (boot : Boot) (found : Entries K Turn) (place : ℕ) (g : Going) → IsAt users boot found place g → IsRun users boot (length (path_of found place)) g
+pub at-run : {K : Type 0} (users : List User) (boot : Boot) (found : Entries K Turn) (place : ℕ) (g : RunState) → IsAt users boot found place g → IsRun users boot (length (path_of found place)) g
 at-run users boot found place g at = steps-run users boot (length (path_of found place)) g (path-run (Leads users) (beginning users boot) (path_of found place) g at)
 
 -- where each run that is over ends as one of these kinds says, and each of them is idle, so is each
 -- run's end
 pub all-idle : (users : List User) (boot : Boot) (questions : List AskedLine) (ends : List Kind) → AreEndsInRuns users boot ends
-    → list_all (λ (k : Kind). are_idle questions k.standing) ends ≡ true → (n : ℕ) (g : Going) → IsRun users boot n g → IsOver users g → are_idle questions (standings users g) ≡ true
+    → list_all (λ (k : Kind). are_idle questions k.standing) ends ≡ true → (n : ℕ) (g : RunState) → IsRun users boot n g → IsOver users g → are_idle questions (standings users g) ≡ true
 all-idle users boot questions ends in_runs all n g run over =
     let end : HasKind ends (standings users g) = in_runs n g run over in
     ap (are_idle questions) (sym end.1.same) ∙ all-at (λ (k : Kind). are_idle questions k.standing) ends end.0 end.1.kind end.1.at all
@@ -70,7 +70,7 @@ ends-among users boot kept ends in_runs has = λ n g run over.
 
 -- where none of the users that may not get stuck has a first place, none does
 pub all-live : {K : Type 0} (users : List User) (boot : Boot) (lives : List Live) (found : Entries K Turn) (edges : List (Edge Turn)) (notes : List Noted) (places : List (Option ℕ)) → AreDecided users boot lives found edges notes
-    → AreFirstPlaces edges (length found) notes (length lives) places → list_all is_none places ≡ true → (i n : ℕ) (l : Live) (g : Going) → slice_get lives i ≡ Some l → IsRun users boot n g → IsLive users l g
+    → AreFirstPlaces edges (length found) notes (length lives) places → list_all is_none places ≡ true → (i n : ℕ) (l : Live) (g : RunState) → slice_get lives i ≡ Some l → IsRun users boot n g → IsLive users l g
 all-live users boot lives found edges notes places decided first all i n l g at run =
     let within = at-within lives i l at in
     let long = decided.long in
@@ -91,7 +91,7 @@ module _ (users : List User) (tables : Tables) where
 
 -- each answer is kept
 module _ (users : List User) (boot : Boot) (tables : Tables) (in_runs : AreAnswersInRuns users boot tables) where
-  kept : (user number n : ℕ) (t : Turn) (g h : Going) (a : Answer) → IsRun users boot n g → Leads users t g h → IsGiven users t g h user number a → IsKeptOf tables user number a
+  kept : (user number n : ℕ) (t : Turn) (g h : RunState) (a : Answer) → IsRun users boot n g → Leads users t g h → IsGiven users t g h user number a → IsKeptOf tables user number a
   kept user number n t g h a run turn (inl own) =
       subst (λ (i : ℕ). IsKeptOf tables i number a) own.0.user (subst (λ (m : ℕ). IsKeptOf tables t.pick.user m a) own.0.number (in_runs.own n t g h a run turn own.0.answer own.1))
   kept user number n t g h a run turn (inr mail) = in_runs.mail n t g h user number a run turn mail
@@ -123,7 +123,7 @@ module _ {K : Type 0} (users : List User) (boot : Boot) (found : Entries K Turn)
             state = a.state;
             run = at-run users boot found it.one.place a.state a.at;
             turn = it.one.turn;
-            going = a.going;
+            run_state = a.run_state;
             leads = a.turn;
             answer = it.one.answer;
             is = a.is;

@@ -7,7 +7,7 @@ use Rattle.mcs_turns.specs.Turns.{User}
 use Rattle.mcs_explore_questions.specs.Asking.{is_question}
 use Rattle.mcs_explore_script.specs.declared.questions.AskedLine.{AskedLine}
 use Rattle.mcs_explore_report.specs.declared.findings.Judged.{Judged}
-use Rattle.mcs_explore_report.specs.declared.judging.Sighting.{Sighting}
+use Rattle.mcs_explore_report.specs.declared.judgement.Sighting.{Sighting}
 use Rattle.mcs_explore_report.specs.Answers.{Tables}
 use Rattle.mcs_explore_report.specs.Ends.{Kind}
 use Rattle.mcs_explore_report.specs.Outcomes.{AddsJudged, AreHeldBelow, HasMissed, IsHeld, IsJudgedMore, all_hold, any_fails, are_live, count_lives, fails, holds, stuck_of}

@@ -13,7 +13,7 @@ use Rattle.mcs_turns.specs.declared.position.Position.{Position}
 use Rattle.mcs_turns.specs.declared.position.Pick.{Pick}
 use Rattle.mcs_turns.specs.declared.reached.Reached.{Reached}
 use Rattle.mcs_turns.specs.Mail.{brought}
-use Rattle.mcs_turns.specs.Turns.{User, Going, AreInRange, IsRun, IsTurn}
+use Rattle.mcs_turns.specs.Turns.{User, RunState, AreInRange, IsRun, IsTurn}
 use Rattle.mcs_explore_equivalence.proofs.Asking.{status-same}
 use Rattle.mcs_explore_equivalence.proofs.Likenesses.{by-likeness}
 use Rattle.mcs_explore_search.specs.Search.{Entries}
@@ -33,8 +33,8 @@ use Rattle.mcs_explore_report.proofs.HeldRuns.{there, same, then_g, then_h}
 use Rattle.mcs_explore_report.proofs.Waiting.{mailed-entry}
 
 -- in runs with the same statuses and places the users have the same standings
-module _ (users : List User) (g h : Going) (places : g.places ≡ h.places) (statuses : (t : ObjId) → status_of (log_of g.book) t ≡ status_of (log_of h.book) t) where
-  abbrev standing_at : Going → ℕ → Option User → Option Standing
+module _ (users : List User) (g h : RunState) (places : g.places ≡ h.places) (statuses : (t : ObjId) → status_of (log_of g.book) t ≡ status_of (log_of h.book) t) where
+  abbrev standing_at : RunState → ℕ → Option User → Option Standing
   standing_at x i o = elim o [ None ↦ None | Some u ↦ elim (slice_get x.places i) [ None ↦ None | Some p ↦ standing_by u (status_of (log_of x.book) u.thread) p ] ]
 
   at-same : (i : ℕ) (o : Option User) → standing_at g i o ≡ standing_at h i o
@@ -58,11 +58,11 @@ module _ (users : List User) (g h : Going) (places : g.places ≡ h.places) (sta
   standings-same = below-same (length users)
 
 -- alike runs: the same turn has the same answer in both, and delivers the same
-module _ (numbered : Bool) (users : List User) (boot : Boot) (whole : IsFaultless boot) (range : AreInRange users) (g h : Going) (a : AreAlike numbered users boot g h) (core : CoreId) (k : Pick) (t : Going) (turn : IsTurn users core k g t) where
-  abbrev left : Going
+module _ (numbered : Bool) (users : List User) (boot : Boot) (whole : IsFaultless boot) (range : AreInRange users) (g h : RunState) (a : AreAlike numbered users boot g h) (core : CoreId) (k : Pick) (t : RunState) (turn : IsTurn users core k g t) where
+  abbrev left : RunState
   left = then_g numbered users boot whole range g h a core k t turn
 
-  abbrev right : Going
+  abbrev right : RunState
   right = then_h numbered users boot whole range g h a core k t turn
 
   answer-same : last_answer left.book ≡ last_answer right.book
@@ -72,10 +72,10 @@ module _ (numbered : Bool) (users : List User) (boot : Boot) (whole : IsFaultles
   brought-same = mail-same None _ _ (same numbered users boot whole range g h a core k t turn).records
 
   pub answered-there : (x : Answer) → last_answer t.book ≡ Some x → last_answer right.book ≡ Some x
-  answered-there x is = sym answer-same ∙ ap (λ (y : Going). last_answer y.book) (sym turn.after) ∙ is
+  answered-there x is = sym answer-same ∙ ap (λ (y : RunState). last_answer y.book) (sym turn.after) ∙ is
 
   pub mailed-there : (user number : ℕ) (u : Turn) (x : Answer) → IsMailed users g.places t user number u x → IsMailed users h.places right user number u x
-  mailed-there user number u x mail = subst (λ (ps : List Position). IsMailed users ps right user number u x) a.close.places (go (subst (λ (y : Going). IsMailed users g.places y user number u x) turn.after mail))
+  mailed-there user number u x mail = subst (λ (ps : List Position). IsMailed users ps right user number u x) a.close.places (go (subst (λ (y : RunState). IsMailed users g.places y user number u x) turn.after mail))
     where
       go : IsMailed users g.places left user number u x → IsMailed users g.places right user number u x
       go m = record {
@@ -91,13 +91,13 @@ module _ {K : Type 0} (numbered : Bool) (users : List User) (boot : Boot) (whole
   ends-in-runs kinds ends = λ n g run over.
       let s = seen n g run in
       let within = s.within in
-      let end = ends.all s.place s.going (omega (arith, within, all)) s.is.path (over-there numbered users boot g s.going s.like over) in
-      subst (λ (ss : List Standing). (i : ℕ) × IsKindAt kinds ss i) (sym (standings-same users g s.going s.like.close.places (λ t. status-same (log_of g.book) (log_of s.going.book) ((by-likeness numbered).numbers (log_of g.book) (log_of s.going.book) s.like.close.logs) t))) end
+      let end = ends.all s.place s.run_state (omega (arith, within, all)) s.is.path (over-there numbered users boot g s.run_state s.like over) in
+      subst (λ (ss : List Standing). (i : ℕ) × IsKindAt kinds ss i) (sym (standings-same users g s.run_state s.like.close.places (λ t. status-same (log_of g.book) (log_of s.run_state.book) ((by-likeness numbered).numbers (log_of g.book) (log_of s.run_state.book) s.like.close.logs) t))) end
 
   pub answers-in-runs : (tables : Tables) → AreAnswersFound users boot found done tables → IsMailFound users boot found done tables → AreAnswersInRuns users boot tables
   answers-in-runs tables answers mail = record { own = own; mail = brings }
     where
-      own : (n : ℕ) (t : Turn) (g h : Going) (a : Answer) → IsRun users boot n g → Leads users t g h → last_answer h.book ≡ Some a → (a ≡ answer.Waits → ⊥) → IsKeptOf tables t.pick.user t.pick.number a
+      own : (n : ℕ) (t : Turn) (g h : RunState) (a : Answer) → IsRun users boot n g → Leads users t g h → last_answer h.book ≡ Some a → (a ≡ answer.Waits → ⊥) → IsKeptOf tables t.pick.user t.pick.number a
       own n t g h a run turn answered not =
           let s = seen n g run in
           let within = s.within in
@@ -106,11 +106,11 @@ module _ {K : Type 0} (numbered : Bool) (users : List User) (boot : Boot) (whole
             witnesses = table.0;
             at = table.1;
             among =
-                answers.all s.place t s.going (then_h numbered users boot whole range g s.going s.like t.core t.pick h turn) a table.0 (omega (arith, within, all)) s.is.path (there numbered users boot whole range g s.going s.like t.core t.pick h turn)
-                (answered-there numbered users boot whole range g s.going s.like t.core t.pick h turn a answered) not table.1;
+                answers.all s.place t s.run_state (then_h numbered users boot whole range g s.run_state s.like t.core t.pick h turn) a table.0 (omega (arith, within, all)) s.is.path (there numbered users boot whole range g s.run_state s.like t.core t.pick h turn)
+                (answered-there numbered users boot whole range g s.run_state s.like t.core t.pick h turn a answered) not table.1;
           }
 
-      brings : (n : ℕ) (t : Turn) (g h : Going) (user number : ℕ) (a : Answer) → IsRun users boot n g → Leads users t g h → IsMailed users g.places h user number t a → IsKeptOf tables user number a
+      brings : (n : ℕ) (t : Turn) (g h : RunState) (user number : ℕ) (a : Answer) → IsRun users boot n g → Leads users t g h → IsMailed users g.places h user number t a → IsKeptOf tables user number a
       brings n t g h user number a run turn it =
           let s = seen n g run in
           let within = s.within in
@@ -119,6 +119,6 @@ module _ {K : Type 0} (numbered : Bool) (users : List User) (boot : Boot) (whole
             witnesses = table.0;
             at = table.1;
             among =
-                mail s.place t s.going (then_h numbered users boot whole range g s.going s.like t.core t.pick h turn) user number a table.0 (omega (arith, within, all)) s.is.path (there numbered users boot whole range g s.going s.like t.core t.pick h turn)
-                (mailed-there numbered users boot whole range g s.going s.like t.core t.pick h turn user number t a it) table.1;
+                mail s.place t s.run_state (then_h numbered users boot whole range g s.run_state s.like t.core t.pick h turn) user number a table.0 (omega (arith, within, all)) s.is.path (there numbered users boot whole range g s.run_state s.like t.core t.pick h turn)
+                (mailed-there numbered users boot whole range g s.run_state s.like t.core t.pick h turn user number t a it) table.1;
           }

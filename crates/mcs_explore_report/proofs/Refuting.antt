@@ -3,18 +3,18 @@ use Rattle.std.specs.Prelude.{ℕ, zero, suc, ◌≡◌, ◌<◌, ◌≤◌, ◌
 use Rattle.std.specs.List.{list_all}
 use Rattle.std.proofs.Common.{refl, ap, sym, ◌∙◌, subst, inl, inr, arith}
 use Rattle.mcs_book.specs.Boots.{Boot}
-use Rattle.mcs_turns.specs.Turns.{User, Going}
+use Rattle.mcs_turns.specs.Turns.{User, RunState}
 use Rattle.mcs_explore_search.specs.declared.search.Edge.{Edge}
 use Rattle.mcs_explore_search.specs.Search.{Entries, depth_at, path_of}
 use Rattle.mcs_explore_walk.specs.declared.walk.Turn.{Turn}
 use Rattle.mcs_explore_orders.specs.Seen.{AreFoundRuns}
-use Rattle.mcs_explore_questions.specs.declared.asking.Asked.{Asked}
-use Rattle.mcs_explore_questions.specs.declared.asking.Asked.TheVariants as asked
-use Rattle.mcs_explore_questions.specs.declared.asking.Event.{Event}
+use Rattle.mcs_explore_questions.specs.declared.questions.Asked.{Asked}
+use Rattle.mcs_explore_questions.specs.declared.questions.Asked.TheVariants as asked
+use Rattle.mcs_explore_questions.specs.declared.questions.Event.{Event}
 use Rattle.mcs_explore_script.specs.declared.questions.AskedLine.{AskedLine}
 use Rattle.mcs_explore_script.specs.declared.lives.Live.{Live}
 use Rattle.mcs_explore_script.specs.declared.script.UserScript.{UserScript}
-use Rattle.mcs_explore_report.specs.declared.judging.Sighting.{Sighting}
+use Rattle.mcs_explore_report.specs.declared.judgement.Sighting.{Sighting}
 use Rattle.mcs_explore_report.specs.declared.verdicts.Verdict.{Verdict}
 use Rattle.mcs_explore_report.specs.Answers.{Tables}
 use Rattle.mcs_explore_report.specs.Endings.{are_idle}
@@ -40,8 +40,8 @@ kept-ends users boot found done kinds are = λ standing has.
     let e = are.each has.0 has.1.kind has.1.at in
     record {
       turns = length (path_of found has.1.kind.place);
-      state = e.going;
-      run = at-run users boot found has.1.kind.place e.going e.is;
+      state = e.run_state;
+      run = at-run users boot found has.1.kind.place e.run_state e.is;
       over = e.over;
       is = e.standing ∙ has.1.same;
     }
@@ -99,7 +99,7 @@ module _ {K : Type 0} (s : UserScript) (found : Entries K Turn) (done : ℕ) (en
         state = it.state;
         run = at-run s.users s.boot found seen.place it.state it.at;
         turn = seen.turn;
-        going = it.going;
+        run_state = it.run_state;
         is = it.is;
         fails = it.fails;
       }

@@ -4,10 +4,10 @@ use Rattle.std.specs.Result.{OnOk}
 use Rattle.std.proofs.Common.{sym, subst}
 use Rattle.mcs_types.specs.declared.entry.Answer.{Answer}
 use Rattle.mcs_turns.specs.declared.position.Position.{Position}
-use Rattle.mcs_turns.specs.Turns.{User, Going}
+use Rattle.mcs_turns.specs.Turns.{User, RunState}
 use Rattle.mcs_explore_walk.specs.declared.walk.Turn.{Turn}
 use Rattle.mcs_explore_orders.specs.Shown.{Shown, nothing, with_state, with_turn}
-use Rattle.mcs_explore_report.specs.declared.judging.Sighting.{Sighting}
+use Rattle.mcs_explore_report.specs.declared.judgement.Sighting.{Sighting}
 use Rattle.mcs_explore_script.specs.declared.lives.Live.{Live}
 use Rattle.mcs_turns.specs.declared.reached.Reached.{Reached}
 use Rattle.mcs_explore_script.specs.declared.questions.AskedLine.{AskedLine}
@@ -22,7 +22,7 @@ use Rattle.mcs_explore_report.proofs.Keeping.{begun-kept, kept-state, kept-turn}
 use Rattle.mcs_explore_report.proofs.Stuck.{none-noted, noted-state, noted-turn}
 
 -- a state more
-pub sees-state : {E : Type 0} (r : Result (Unit {0}) E) (users : List User) (questions : List AskedLine) (lives later : List Live) (place : ℕ) (g : Going) (over : Bool) (old new : List Kind) (tables : Tables) (failed after : List (Option Sighting)) (notes noted : List Noted)
+pub sees-state : {E : Type 0} (r : Result (Unit {0}) E) (users : List User) (questions : List AskedLine) (lives later : List Live) (place : ℕ) (g : RunState) (over : Bool) (old new : List Kind) (tables : Tables) (failed after : List (Option Sighting)) (notes noted : List Noted)
     → AreJudgedBy users questions (record { place = place; turn = None }) g failed after → IsNotedIf over (standings users g) place old new
     → later ≡ lives → OnOk r (AreNotedOn (with_sight users g) lives notes noted)
     → OnOk r ((shown : Shown) → HasKept users questions lives shown old tables failed notes → HasKept users questions later (with_state place g over shown) new tables after noted)
@@ -36,7 +36,7 @@ sees-state {E} (Ok x) users questions lives later place g over old new tables fa
     ok = Ok x
 
 -- a turn more
-pub sees-turn : {E : Type 0} (r : Result (Unit {0}) E) (users : List User) (questions : List AskedLine) (lives later : List Live) (place : ℕ) (t : Turn) (a : Answer) (from : List Position) (h : Going) (kinds : List Kind) (start mid after : Tables) (failed then : List (Option Sighting)) (notes noted : List Noted)
+pub sees-turn : {E : Type 0} (r : Result (Unit {0}) E) (users : List User) (questions : List AskedLine) (lives later : List Live) (place : ℕ) (t : Turn) (a : Answer) (from : List Position) (h : RunState) (kinds : List Kind) (start mid after : Tables) (failed then : List (Option Sighting)) (notes noted : List Noted)
     → AreJudgedBy users questions (record { place = place; turn = Some t }) h failed then → IsNotedTurn (record { answer = a; place = place; turn = t }) start mid
     → (all : List Reached) → all ≡ brought h.book → AreNotedMail users from place t all mid after
     → later ≡ lives → OnOk r (AreNotedOn (with_made users place t a from all) lives notes noted)

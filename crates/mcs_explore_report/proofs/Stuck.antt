@@ -9,7 +9,7 @@ use Rattle.mcs_types.specs.declared.entry.Answer.{Answer}
 use Rattle.mcs_book.specs.Boots.{Boot, IsFaultless}
 use Rattle.mcs_book.specs.History.{log_of}
 use Rattle.mcs_turns.specs.declared.position.Position.{Position}
-use Rattle.mcs_turns.specs.Turns.{User, Going, AreInRange, IsTurn, beginning, outcome}
+use Rattle.mcs_turns.specs.Turns.{User, RunState, AreInRange, IsTurn, beginning, outcome}
 use Rattle.mcs_explore_equivalence.proofs.Asking.{status-same}
 use Rattle.mcs_explore_equivalence.proofs.Likenesses.{by-likeness}
 use Rattle.mcs_explore_search.specs.declared.search.Edge.{Edge}
@@ -21,7 +21,7 @@ use Rattle.mcs_explore_equivalence.specs.Runs.{AreAlike}
 use Rattle.mcs_explore_equivalence.proofs.Alikes.{alike-back, alike-self}
 use Rattle.mcs_explore_walk.specs.declared.walk.Turn.{Turn}
 use Rattle.mcs_explore_orders.specs.Seen.{AreAllSeen, IsAlongEdges, IsGraphOfRuns, IsSeen}
-use Rattle.mcs_explore_orders.specs.Shown.{AreShown, Made, Shown, Sight, nothing, with_state, with_turn}
+use Rattle.mcs_explore_orders.specs.Shown.{AreShown, Made, Shown, SeenState, nothing, with_state, with_turn}
 use Rattle.mcs_explore_orders.specs.Trails.{Leads}
 use Rattle.mcs_explore_orders.proofs.Paths.{path-one}
 use Rattle.mcs_explore_script.specs.declared.lives.Live.{Live}
@@ -174,28 +174,28 @@ module _ {A : Type 0} (wanted : A → Bool) (place : A → ℕ) where
 
 -- that a state is near carries over to states that no later turn distinguishes from it
 module _ (numbered : Bool) (users : List User) (boot : Boot) (whole : IsFaultless boot) (range : AreInRange users) (l : Live) where
-  settled-same : (g h : Going) → AreAlike numbered users boot g h → is_settled users l g ≡ is_settled users l h
+  settled-same : (g h : RunState) → AreAlike numbered users boot g h → is_settled users l g ≡ is_settled users l h
   settled-same g h a =
       ap (λ (n : ℕ). elim (slice_get users l.user) [ None ↦ true | Some u ↦ settled_by u l.entry n ])
       (answered-same users g h a.close.places (λ t. status-same (log_of g.book) (log_of h.book) ((by-likeness numbered).numbers (log_of g.book) (log_of h.book) a.close.logs) t) (slice_get users l.user) l.user)
 
-  last-same : (g h : Going) (a : AreAlike numbered users boot g h) (t : Turn) (k : Going) (turn : IsTurn users t.core t.pick g k)
+  last-same : (g h : RunState) (a : AreAlike numbered users boot g h) (t : Turn) (k : RunState) (turn : IsTurn users t.core t.pick g k)
       → answers_last users l t g (then_g numbered users boot whole range g h a t.core t.pick k turn) ≡ answers_last users l t h (then_h numbered users boot whole range g h a t.core t.pick k turn)
   last-same g h a t k turn =
       ap (λ (x : Answer). answers users l t x g.places (brought left.book)) (same numbered users boot whole range g h a t.core t.pick k turn).answer
       ∙ ap (λ (ps : List Position). answers users l t there_answer ps (brought left.book)) a.close.places
       ∙ ap (λ (rs : List Reached). answers users l t there_answer h.places rs) (brought-same numbered users boot whole range g h a t.core t.pick k turn)
     where
-      left : Going
+      left : RunState
       left = then_g numbered users boot whole range g h a t.core t.pick k turn
 
-      right : Going
+      right : RunState
       right = then_h numbered users boot whole range g h a t.core t.pick k turn
 
       there_answer : Answer
       there_answer = (outcome h.book (step numbered users boot whole range g h a t.core t.pick k turn)).answer
 
-  near-there : (g h : Going) → AreAlike numbered users boot g h → IsNear users l g → IsNear users l h
+  near-there : (g h : RunState) → AreAlike numbered users boot g h → IsNear users l g → IsNear users l h
   near-there g h a (inl settled) = inl (sym (settled-same g h a) ∙ settled)
   near-there g h a (inr it) = inr (
     it.0,
@@ -203,7 +203,7 @@ module _ (numbered : Bool) (users : List User) (boot : Boot) (whole : IsFaultles
       then_h numbered users boot whole range g h a it.0.core it.0.pick it.1.0 it.1.1.0,
       (
         there numbered users boot whole range g h a it.0.core it.0.pick it.1.0 it.1.1.0,
-        sym (last-same g h a it.0 it.1.0 it.1.1.0) ∙ ap (λ (x : Going). answers_last users l it.0 g x) (sym it.1.1.0.after) ∙ it.1.1.1,
+        sym (last-same g h a it.0 it.1.0 it.1.1.0) ∙ ap (λ (x : RunState). answers_last users l it.0 g x) (sym it.1.1.0.after) ∙ it.1.1.1,
       ),
     ),
   )
@@ -234,7 +234,7 @@ module _ {K : Type 0} (numbered : Bool) (users : List User) (boot : Boot) (whole
   base = known ++ rest
 
   settled-long : length n.settled ≡ done
-  settled-long = ap length noted.settled ∙ length-map shown.states (λ (s : Sight). is_settled users l s.going) ∙ are.long ∙ paths-long found done
+  settled-long = ap length noted.settled ∙ length-map shown.states (λ (s : SeenState). is_settled users l s.run_state) ∙ are.long ∙ paths-long found done
 
   base-at : (i : ℕ) → i < length found → i < done → is_marked base i ≡ get_or n.settled i false
   base-at i lt below =
@@ -256,100 +256,100 @@ module _ {K : Type 0} (numbered : Bool) (users : List User) (boot : Boot) (whole
   marks-as-long = marks-long n.answered base ∙ base-long
 
   -- the state in a place, as it was shown
-  state-at : (i : ℕ) (g : Going) → i < length found → i < done → IsAt users boot found i g → is_marked base i ≡ is_settled users l g
+  state-at : (i : ℕ) (g : RunState) → i < length found → i < done → IsAt users boot found i g → is_marked base i ≡ is_settled users l g
   state-at i g lt below at =
       let s = within-at shown.states i (let long = are.long in let paths = paths-long found done in omega (arith, long, paths, below)) in
       let is = are.states i s.0 s.1 in
       let path : is.path ≡ path_of found i = some-same is.path (path_of found i) (sym is.at ∙ at-paths found done i below) in
-      let going : s.0.going ≡ g = path-one users (beginning users boot) (path_of found i) s.0.going g (subst (λ ls. Path (Leads users) (beginning users boot) ls s.0.going) path is.leads) at in
+      let run_state : s.0.run_state ≡ g = path-one users (beginning users boot) (path_of found i) s.0.run_state g (subst (λ ls. Path (Leads users) (beginning users boot) ls s.0.run_state) path is.leads) at in
       base-at i lt below
       ∙ ap (λ (bs : List Bool). get_or bs i false) noted.settled
-      ∙ get_or-map (λ (x : Sight). is_settled users l x.going) shown.states i s.0 false (at-within shown.states i s.0 s.1)
-      ∙ ap (λ (x : Sight). is_settled users l x.going) (get_or_from_slice_get shown.states i s.0 s.0 s.1)
-      ∙ ap (λ (x : Going). is_settled users l x) going
+      ∙ get_or-map (λ (x : SeenState). is_settled users l x.run_state) shown.states i s.0 false (at-within shown.states i s.0 s.1)
+      ∙ ap (λ (x : SeenState). is_settled users l x.run_state) (get_or_from_slice_get shown.states i s.0 s.0 s.1)
+      ∙ ap (λ (x : RunState). is_settled users l x) run_state
 
-  near-below : (i : ℕ) (g : Going) → i < length found → i < done → IsAt users boot found i g → IsNear users l g → is_marked marks i ≡ true
+  near-below : (i : ℕ) (g : RunState) → i < length found → i < done → IsAt users boot found i g → IsNear users l g → is_marked marks i ≡ true
   near-below i g lt below at (inl settled) = old-marks n.answered base i (state-at i g lt below at ∙ settled)
   near-below i g lt below at (inr it) =
       let m = are.all i (path_of found i) g it.1.0 it.0 (at-paths found done i below) at it.1.1.0 in
       let made = are.turns m.number m.made m.at in
-      let is : answers users l m.made.turn m.made.answer m.made.from (brought m.made.going.book) ≡ true =
-      ap (λ (ps : List Position). answers users l m.made.turn m.made.answer ps (brought m.made.going.book)) (made-from users boot found done i g m.made below at m.place made)
-      ∙ ap (λ (x : Option Answer). elim x [ None ↦ false | Some a ↦ answers users l m.made.turn a g.places (brought m.made.going.book) ]) (sym made.turn.answer)
-      ∙ ap (λ (t : Turn). answers_last users l t g m.made.going) m.turn ∙ ap (λ (x : Going). answers_last users l it.0 g x) m.going ∙ it.1.1.1 in
-      let j = flat-has (λ (x : Made). answers users l x.turn x.answer x.from (brought x.going.book)) (λ (x : Made). x.place) shown.turns m.number m.made m.at is in
+      let is : answers users l m.made.turn m.made.answer m.made.from (brought m.made.run_state.book) ≡ true =
+      ap (λ (ps : List Position). answers users l m.made.turn m.made.answer ps (brought m.made.run_state.book)) (made-from users boot found done i g m.made below at m.place made)
+      ∙ ap (λ (x : Option Answer). elim x [ None ↦ false | Some a ↦ answers users l m.made.turn a g.places (brought m.made.run_state.book) ]) (sym made.turn.answer)
+      ∙ ap (λ (t : Turn). answers_last users l t g m.made.run_state) m.turn ∙ ap (λ (x : RunState). answers_last users l it.0 g x) m.run_state ∙ it.1.1.1 in
+      let j = flat-has (λ (x : Made). answers users l x.turn x.answer x.from (brought x.run_state.book)) (λ (x : Made). x.place) shown.turns m.number m.made m.at is in
       has-mark n.answered base j.0 i (ap (λ (ps : List ℕ). slice_get ps j.0) noted.answered ∙ j.1 ∙ ap (λ (k : ℕ). Some k) m.place) (subst (λ k. i < k) (sym base-long) lt)
 
-  near-marked : (i : ℕ) (g : Going) → i < length found → IsAt users boot found i g → IsNear users l g → is_marked marks i ≡ true
+  near-marked : (i : ℕ) (g : RunState) → i < length found → IsAt users boot found i g → IsNear users l g → is_marked marks i ≡ true
   near-marked i g lt at near = go (less-or-not i done)
     where
       go : (i < done) ⊎ (done ≤ i) → is_marked marks i ≡ true
       go (inl below) = near-below i g lt below at near
       go (inr beyond) = old-marks n.answered base i (base-beyond i lt beyond)
 
-  made-near : (i : ℕ) (g : Going) → i < done → IsAt users boot found i g → IsPicked (λ (x : Made). answers users l x.turn x.answer x.from (brought x.going.book)) (λ (x : Made). x.place) shown.turns i → IsNear users l g
+  made-near : (i : ℕ) (g : RunState) → i < done → IsAt users boot found i g → IsPicked (λ (x : Made). answers users l x.turn x.answer x.from (brought x.run_state.book)) (λ (x : Made). x.place) shown.turns i → IsNear users l g
   made-near i g below at m =
       let made = are.turns m.number m.one m.at in
       let path : made.path ≡ path_of found i = some-same made.path (path_of found i) (sym made.at ∙ ap (λ (k : ℕ). slice_get (paths_below found done) k) m.place_is ∙ at-paths found done i below) in
-      let going : made.state ≡ g = path-one users (beginning users boot) (path_of found i) made.state g (subst (λ ls. Path (Leads users) (beginning users boot) ls made.state) path made.leads) at in
+      let run_state : made.state ≡ g = path-one users (beginning users boot) (path_of found i) made.state g (subst (λ ls. Path (Leads users) (beginning users boot) ls made.state) path made.leads) at in
       inr (
         m.one.turn,
         (
-          m.one.going,
+          m.one.run_state,
           (
-            subst (λ (x : Going). Leads users m.one.turn x m.one.going) going made.turn.leads,
-            ap (λ (x : Option Answer). elim x [ None ↦ false | Some a ↦ answers users l m.one.turn a g.places (brought m.one.going.book) ]) made.turn.answer
-                ∙ ap (λ (ps : List Position). answers users l m.one.turn m.one.answer ps (brought m.one.going.book)) (sym (made.turn.from ∙ ap (λ (x : Going). x.places) going)) ∙ m.is,
+            subst (λ (x : RunState). Leads users m.one.turn x m.one.run_state) run_state made.turn.leads,
+            ap (λ (x : Option Answer). elim x [ None ↦ false | Some a ↦ answers users l m.one.turn a g.places (brought m.one.run_state.book) ]) made.turn.answer
+                ∙ ap (λ (ps : List Position). answers users l m.one.turn m.one.answer ps (brought m.one.run_state.book)) (sym (made.turn.from ∙ ap (λ (x : RunState). x.places) run_state)) ∙ m.is,
           ),
         ),
       )
 
-  marked-near : (i : ℕ) (g : Going) → i < length found → i < done → IsAt users boot found i g → is_marked marks i ≡ true → IsNear users l g
+  marked-near : (i : ℕ) (g : RunState) → i < length found → i < done → IsAt users boot found i g → is_marked marks i ≡ true → IsNear users l g
   marked-near i g lt below at h = go (marks-from n.answered base i h)
     where
       go : (is_marked base i ≡ true) ⊎ ((j : ℕ) × (slice_get n.answered j ≡ Some i)) → IsNear users l g
       go (inl old) = inl (sym (state-at i g lt below at) ∙ old)
-      go (inr it) = made-near i g below at (flat-from (λ (x : Made). answers users l x.turn x.answer x.from (brought x.going.book)) (λ (x : Made). x.place) shown.turns it.0 i (ap (λ (ps : List ℕ). slice_get ps it.0) (sym noted.answered) ∙ it.1))
+      go (inr it) = made-near i g below at (flat-from (λ (x : Made). answers users l x.turn x.answer x.from (brought x.run_state.book)) (λ (x : Made). x.place) shown.turns it.0 i (ap (λ (ps : List ℕ). slice_get ps it.0) (sym noted.answered) ∙ it.1))
 
   -- the state of a place is that of its visit
-  state-is : (i : ℕ) (g h : Going) → slice_get graph.states i ≡ Some g → IsAt users boot found i h → g ≡ h
+  state-is : (i : ℕ) (g h : RunState) → slice_get graph.states i ≡ Some g → IsAt users boot found i h → g ≡ h
   state-is i g h at there_at = path-one users (beginning users boot) (path_of found i) g h (graph.each i g at).path there_at
 
-  state-of : (i : ℕ) → i < length found → (g : Going) × (slice_get graph.states i ≡ Some g)
+  state-of : (i : ℕ) → i < length found → (g : RunState) × (slice_get graph.states i ≡ Some g)
   state-of i lt = within-at graph.states i (subst (λ k. i < k) (sym graph.long) lt)
 
-  found-within : (i : ℕ) (g : Going) → slice_get graph.states i ≡ Some g → i < length found
+  found-within : (i : ℕ) (g : RunState) → slice_get graph.states i ≡ Some g → i < length found
   found-within i g at = subst (λ k. i < k) graph.long (at-within graph.states i g at)
 
-  live-led : (i : ℕ) (g h : Going) → slice_get graph.states i ≡ Some g → AreAlike numbered users boot h g → IsLive users l h → IsLed edges marks i
-  live-led i g h at like live = go (graph.along live.turns i g h live.going at like live.run)
+  live-led : (i : ℕ) (g h : RunState) → slice_get graph.states i ≡ Some g → AreAlike numbered users boot h g → IsLive users l h → IsLed edges marks i
+  live-led i g h at like live = go (graph.along live.turns i g h live.run_state at like live.run)
     where
-      go : IsAlongEdges numbered users boot graph.states edges i live.turns live.going ⊎ LeadsOut edges done (length found) i → IsLed edges marks i
+      go : IsAlongEdges numbered users boot graph.states edges i live.turns live.run_state ⊎ LeadsOut edges done (length found) i → IsLed edges marks i
       go (inl a) = record {
         steps = live.turns;
         end = a.end;
         run = a.run;
-        marked = near-marked a.end a.state (found-within a.end a.state a.there) (graph.each a.end a.state a.there).path (near-there numbered users boot whole range l live.going a.state a.like live.near);
+        marked = near-marked a.end a.state (found-within a.end a.state a.there) (graph.each a.end a.state a.there).path (near-there numbered users boot whole range l live.run_state a.state a.like live.near);
       }
       go (inr out) = record { steps = out.steps; end = out.end; run = out.run; marked = old-marks n.answered base out.end (base-beyond out.end out.within out.beyond) }
 
-  self : (i : ℕ) (g : Going) → slice_get graph.states i ≡ Some g → AreAlike numbered users boot g g
+  self : (i : ℕ) (g : RunState) → slice_get graph.states i ≡ Some g → AreAlike numbered users boot g g
   self i g at = alike-self numbered users boot whole range g (record { turns = _; run = (graph.each i g at).run })
 
   -- edges lead from where a run does
-  pub stuck-there : (place : ℕ) (g : Going) → place < length found → (IsLed edges marks place → ⊥) → IsAt users boot found place g → IsLive users l g → ⊥
+  pub stuck-there : (place : ℕ) (g : RunState) → place < length found → (IsLed edges marks place → ⊥) → IsAt users boot found place g → IsLive users l g → ⊥
   stuck-there place g lt unled at live =
       let s = state-of place lt in
-      unled (live-led place s.0 g s.1 (subst (λ (x : Going). AreAlike numbered users boot x s.0) (state-is place s.0 g s.1 at) (self place s.0 s.1)) live)
+      unled (live-led place s.0 g s.1 (subst (λ (x : RunState). AreAlike numbered users boot x s.0) (state-is place s.0 g s.1 at) (self place s.0 s.1)) live)
 
-  led-live : length found ≤ done → (i : ℕ) (g h : Going) → slice_get graph.states i ≡ Some g → AreAlike numbered users boot h g → IsLed edges marks i → IsLive users l h
+  led-live : length found ≤ done → (i : ℕ) (g h : RunState) → slice_get graph.states i ≡ Some g → AreAlike numbered users boot h g → IsLed edges marks i → IsLive users l h
   led-live all i g h at like led =
       let lt : led.end < length found = subst (λ k. led.end < k) marks-as-long (marked-within marks led.end led.marked) in
       let s = state-of led.end lt in
       let r = graph.runs led.steps i led.end g h s.0 at s.1 like led.run in
       record {
         turns = led.steps;
-        going = r.0;
+        run_state = r.0;
         run = r.1.0;
         near = near-there numbered users boot whole range l s.0 r.0 (alike-back numbered users boot r.0 s.0 r.1.1) (marked-near led.end s.0 lt (omega (arith, lt, all)) (graph.each led.end s.0 s.1).path led.marked);
       }
@@ -359,16 +359,16 @@ module _ {K : Type 0} (numbered : Bool) (users : List User) (boot : Boot) (whole
       marked-within (m ∷ ms) zero h = omega arith
       marked-within (m ∷ ms) (suc i) h = let r = marked-within ms i h in omega (arith, r)
 
-  here-live : length found ≤ done → (i : ℕ) (g : Going) → i < length found → IsAt users boot found i g → IsLed edges marks i → IsLive users l g
+  here-live : length found ≤ done → (i : ℕ) (g : RunState) → i < length found → IsAt users boot found i g → IsLed edges marks i → IsLive users l g
   here-live all i g lt at led =
       let s = state-of i lt in
-      subst (λ (x : Going). IsLive users l x) (state-is i s.0 g s.1 at) (led-live all i s.0 s.0 s.1 (self i s.0 s.1) led)
+      subst (λ (x : RunState). IsLive users l x) (state-is i s.0 g s.1 at) (led-live all i s.0 s.0 s.1 (self i s.0 s.1) led)
 
   pub stuck-first : length found ≤ done → AreAllSeen numbered users boot found → (o : Option ℕ) → IsFirstUnled edges marks o → IsStuckFirst users boot l found o
   stuck-first all seen None led = λ m g run.
       let s : IsSeen numbered users boot found m g = seen m g run in
       let t = state-of s.place s.within in
-      led-live all s.place t.0 g t.1 (subst (λ (x : Going). AreAlike numbered users boot g x) (sym (state-is s.place t.0 s.going t.1 s.is.path)) s.like) (led s.place (subst (λ k. s.place < k) (sym marks-as-long) s.within))
+      led-live all s.place t.0 g t.1 (subst (λ (x : RunState). AreAlike numbered users boot g x) (sym (state-is s.place t.0 s.run_state t.1 s.is.path)) s.like) (led s.place (subst (λ k. s.place < k) (sym marks-as-long) s.within))
   stuck-first all seen (Some place) first =
       let lt : place < length found = subst (λ k. place < k) marks-as-long first.0 in
       record {
@@ -400,19 +400,19 @@ noted-on users lives change old new before after one on are = record { long = on
         subst (λ (m : Noted). IsNotedBy users after l m) (some-same (change l was.0) n (sym (on.each i l was.0 at was.1) ∙ there)) (one l was.0 (are.each i l was.0 at was.1))
 
 -- a state more
-pub noted-state : (users : List User) (lives : List Live) (place : ℕ) (g : Going) (over : Bool) (shown : Shown) (old new : List Noted) → AreNotedOn (with_sight users g) lives old new → AreNotedBy users lives shown old
+pub noted-state : (users : List User) (lives : List Live) (place : ℕ) (g : RunState) (over : Bool) (shown : Shown) (old new : List Noted) → AreNotedOn (with_sight users g) lives old new → AreNotedBy users lives shown old
     → AreNotedBy users lives (with_state place g over shown) new
 noted-state users lives place g over shown old new = noted-on users lives (with_sight users g) old new shown (with_state place g over shown) (λ l n is. record {
-  settled = ap (λ (bs : List Bool). bs ++ is_settled users l g ∷ []) is.settled ∙ sym (map-append (λ (s : Sight). is_settled users l s.going) shown.states ((record { place = place; going = g; is_over = over }) ∷ []));
+  settled = ap (λ (bs : List Bool). bs ++ is_settled users l g ∷ []) is.settled ∙ sym (map-append (λ (s : SeenState). is_settled users l s.run_state) shown.states ((record { place = place; run_state = g; is_over = over }) ∷ []));
   answered = is.answered;
 })
 
 -- a turn more
-pub noted-turn : (users : List User) (lives : List Live) (place : ℕ) (t : Turn) (a : Answer) (from : List Position) (h : Going) (shown : Shown) (old new : List Noted) → AreNotedOn (with_made users place t a from (brought h.book)) lives old new → AreNotedBy users lives shown old
+pub noted-turn : (users : List User) (lives : List Live) (place : ℕ) (t : Turn) (a : Answer) (from : List Position) (h : RunState) (shown : Shown) (old new : List Noted) → AreNotedOn (with_made users place t a from (brought h.book)) lives old new → AreNotedBy users lives shown old
     → AreNotedBy users lives (with_turn place t a from h shown) new
 noted-turn users lives place t a from h shown old new = noted-on users lives (with_made users place t a from (brought h.book)) old new shown (with_turn place t a from h shown) (λ l n is. record {
   settled = is.settled;
-  answered = ap (λ (ps : List ℕ). ps ++ cond (answers users l t a from (brought h.book)) (place ∷ []) []) is.answered ∙ flat-last (λ (m : Made). cond (answers users l m.turn m.answer m.from (brought m.going.book)) (m.place ∷ []) []) shown.turns (record { place = place; turn = t; answer = a; from = from; going = h });
+  answered = ap (λ (ps : List ℕ). ps ++ cond (answers users l t a from (brought h.book)) (place ∷ []) []) is.answered ∙ flat-last (λ (m : Made). cond (answers users l m.turn m.answer m.from (brought m.run_state.book)) (m.place ∷ []) []) shown.turns (record { place = place; turn = t; answer = a; from = from; run_state = h });
 })
   where
     nil : {A : Type 0} (xs : List A) → xs ≡ xs ++ []

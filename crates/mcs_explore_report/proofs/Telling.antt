@@ -9,7 +9,7 @@ use Rattle.mcs_types.specs.declared.entry.Entry.{Entry}
 use Rattle.mcs_book.specs.History.{Book, Line, line_of_number}
 use Rattle.mcs_turns.specs.declared.position.Position.{Position}
 use Rattle.mcs_turns.specs.declared.position.Pick.{Pick}
-use Rattle.mcs_turns.specs.Turns.{User, Going}
+use Rattle.mcs_turns.specs.Turns.{User, RunState}
 use Rattle.mcs_explore_walk.specs.declared.walk.Turn.{Turn}
 use Rattle.mcs_explore_orders.specs.Shown.{Made}
 use Rattle.mcs_types.specs.declared.record.Rec.{Rec}
@@ -282,27 +282,27 @@ module _ (users : List User) (from : List Position) (place : ℕ) (t : Turn) whe
   mail-has (x ∷ rs) (suc i) r user number witnesses old new at to (mid, (one, rest)) there = mail-has rs i r user number witnesses mid new at to rest there
 
 -- all that one more turn delivered is there, and all that was there is
-pub mail-more : (users : List User) (turns : List Made) (m : Made) (old mid new : Tables) → IsNotedTurn (record { answer = m.answer; place = m.place; turn = m.turn }) old mid → AreNotedMail users m.from m.place m.turn (brought m.going.book) mid new
+pub mail-more : (users : List User) (turns : List Made) (m : Made) (old mid new : Tables) → IsNotedTurn (record { answer = m.answer; place = m.place; turn = m.turn }) old mid → AreNotedMail users m.from m.place m.turn (brought m.run_state.book) mid new
     → AreMailOf users turns old → AreMailOf users (turns ++ m ∷ []) new
 mail-more users turns m old mid new own noted are = λ j n user number a witnesses at mail there. go j n user number a witnesses mail there (at-split turns m j n at)
   where
     grows : Grows old new
-    grows = grows-on old mid new (turn-grows (record { answer = m.answer; place = m.place; turn = m.turn }) old mid own) (mail-grows users m.from m.place m.turn (brought m.going.book) mid new noted)
+    grows = grows-on old mid new (turn-grows (record { answer = m.answer; place = m.place; turn = m.turn }) old mid own) (mail-grows users m.from m.place m.turn (brought m.run_state.book) mid new noted)
 
-    mine : (user number : ℕ) (a : Answer) (witnesses : List Witness) → IsMailed users m.from m.going user number m.turn a → table_of new user number ≡ Some witnesses → IsAmong witnesses a
+    mine : (user number : ℕ) (a : Answer) (witnesses : List Witness) → IsMailed users m.from m.run_state user number m.turn a → table_of new user number ≡ Some witnesses → IsAmong witnesses a
     mine user number a witnesses mail there =
-        subst (λ x. IsAmong witnesses x) mail.answer (mail-has users m.from m.place m.turn (brought m.going.book) mail.index mail.reached user number witnesses mid new mail.at mail.to noted there)
+        subst (λ x. IsAmong witnesses x) mail.answer (mail-has users m.from m.place m.turn (brought m.run_state.book) mail.index mail.reached user number witnesses mid new mail.at mail.to noted there)
 
-    go : (j : ℕ) (n : Made) (user number : ℕ) (a : Answer) (witnesses : List Witness) → IsMailed users n.from n.going user number n.turn a → table_of new user number ≡ Some witnesses → (slice_get turns j ≡ Some n) ⊎ ((j ≡ length turns) × (n ≡ m)) → IsAmong witnesses a
+    go : (j : ℕ) (n : Made) (user number : ℕ) (a : Answer) (witnesses : List Witness) → IsMailed users n.from n.run_state user number n.turn a → table_of new user number ≡ Some witnesses → (slice_get turns j ≡ Some n) ⊎ ((j ≡ length turns) × (n ≡ m)) → IsAmong witnesses a
     go j n user number a witnesses mail there (inl h) = grows user number witnesses a there (λ ts was. are j n user number a ts h mail was)
-    go j n user number a witnesses mail there (inr e) = mine user number a witnesses (subst (λ (x : Made). IsMailed users x.from x.going user number x.turn a) e.1 mail) there
+    go j n user number a witnesses mail there (inr e) = mine user number a witnesses (subst (λ (x : Made). IsMailed users x.from x.run_state user number x.turn a) e.1 mail) there
 
 pub no-mail : (users : List User) (tables : Tables) → AreMailOf users [] tables
 no-mail users tables = λ j m user number a witnesses at. absurd cc
 
 -- and each answer that was noted so came by it
 module _ (users : List User) (turns : List Made) (j : ℕ) (m : Made) (at : slice_get turns j ≡ Some m) where
-  one-noted : (r : Reached) (i : ℕ) (old new : Tables) → slice_get (brought m.going.book) i ≡ Some r → IsNotedMail users m.from m.place m.turn r old new → AreAnswersOf users turns old → AreAnswersOf users turns new
+  one-noted : (r : Reached) (i : ℕ) (old new : Tables) → slice_get (brought m.run_state.book) i ≡ Some r → IsNotedMail users m.from m.place m.turn r old new → AreAnswersOf users turns old → AreAnswersOf users turns new
   one-noted r i old new there noted are = go (mailed_to users m.from m.turn r) refl noted
     where
       t : Witness
@@ -311,10 +311,10 @@ module _ (users : List User) (turns : List Made) (j : ℕ) (m : Made) (at : slic
       go : (o : Option Pick) → mailed_to users m.from m.turn r ≡ o → IsNotedFor o t old new → AreAnswersOf users turns new
       go None none same = subst (λ (ts : Tables). AreAnswersOf users turns ts) (sym same) are
       go (Some e) to new_one =
-          let mail : IsMailed users m.from m.going e.user e.number m.turn r.answer = record { index = i; reached = r; at = there; to = to; answer = refl } in
+          let mail : IsMailed users m.from m.run_state e.user e.number m.turn r.answer = record { index = i; reached = r; at = there; to = to; answer = refl } in
           answer-noted users turns old new e.user e.number t (record { index = j; made = m; at = at; place = refl; turn = refl; is = inr mail }) new_one are
 
-  pub mail-noted : (rs : List Reached) (old new : Tables) → ((i : ℕ) (r : Reached) → slice_get rs i ≡ Some r → (k : ℕ) × (slice_get (brought m.going.book) k ≡ Some r)) → AreNotedMail users m.from m.place m.turn rs old new
+  pub mail-noted : (rs : List Reached) (old new : Tables) → ((i : ℕ) (r : Reached) → slice_get rs i ≡ Some r → (k : ℕ) × (slice_get (brought m.run_state.book) k ≡ Some r)) → AreNotedMail users m.from m.place m.turn rs old new
       → AreAnswersOf users turns old → AreAnswersOf users turns new
   mail-noted [] old new among same are = subst (λ (ts : Tables). AreAnswersOf users turns ts) (sym same) are
   mail-noted (r ∷ rs) old new among (mid, (one, rest)) are =

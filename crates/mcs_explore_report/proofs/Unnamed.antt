@@ -9,8 +9,8 @@ use Rattle.std.proofs.lemmas.Slice.Eq.{bytes_eq-Decides}
 use Rattle.mcs_book.specs.Boots.{Boot}
 use Rattle.mcs_text.specs.Reading.{is_digit, words_of}
 use Rattle.mcs_turns.specs.Turns.{User}
-use Rattle.mcs_explore_questions.specs.declared.asking.Asked.{Asked}
-use Rattle.mcs_explore_questions.specs.declared.asking.Asked.TheVariants as asked
+use Rattle.mcs_explore_questions.specs.declared.questions.Asked.{Asked}
+use Rattle.mcs_explore_questions.specs.declared.questions.Asked.TheVariants as asked
 use Rattle.mcs_explore_report.specs.declared.modes.Mode.{Mode}
 use Rattle.mcs_explore_report.specs.declared.modes.Mode.TheVariants.{Proved}
 use Rattle.mcs_explore_script.specs.declared.questions.AskedLine.{AskedLine}

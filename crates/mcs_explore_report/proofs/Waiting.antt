@@ -14,7 +14,7 @@ use Rattle.mcs_turns.specs.declared.program.Saved.{Saved}
 use Rattle.mcs_turns.specs.declared.program.Settled.{Settled}
 use Rattle.mcs_turns.specs.Mail.{reached_from}
 use Rattle.mcs_turns.specs.Programs.{goes_on, starts}
-use Rattle.mcs_turns.specs.Turns.{User, Going, IsRun, IsTurn, all_answered, position_after, comes_of, given, gone_on, listed_after, outcome, place_answered, put_at, saved_at, started, answered, answered_all, answered_if, waiting_after}
+use Rattle.mcs_turns.specs.Turns.{User, RunState, IsRun, IsTurn, all_answered, position_after, comes_of, given, gone_on, listed_after, outcome, place_answered, put_at, saved_at, started, answered, answered_all, answered_if, waiting_after}
 use Rattle.mcs_explore_walk.specs.declared.walk.Turn.{Turn}
 use Rattle.mcs_turns.specs.declared.reached.Reached.{Reached}
 use Rattle.mcs_explore_script.specs.UserLists.{user_of}
@@ -105,14 +105,14 @@ answered-in rs own i users [] j p at = absurd cc
 answered-in rs own i users (q ∷ qs) zero p at = (q, (refl, λ m e. place-answered-waits rs own users i q m (ap (λ (x : Position). x.waited) (some-same (place_answered rs own users i q) p at) ∙ e)))
 answered-in rs own i users (q ∷ qs) (suc j) p at = answered-in rs own (i + 1) users qs j p at
 
-waits-entry : (users : List User) (boot : Boot) (n : ℕ) (g : Going) → IsRun users boot n g → (i m : ℕ) (p : Position) → slice_get g.places i ≡ Some p → p.waited ≡ Some m → IsEntry users i m
+waits-entry : (users : List User) (boot : Boot) (n : ℕ) (g : RunState) → IsRun users boot n g → (i m : ℕ) (p : Position) → slice_get g.places i ≡ Some p → p.waited ≡ Some m → IsEntry users i m
 waits-entry users boot zero g begins i m p at waits =
-    absurd (none (sym (started-in users i p (ap (λ (x : Going). slice_get x.places i) (sym begins) ∙ at)) ∙ waits))
+    absurd (none (sym (started-in users i p (ap (λ (x : RunState). slice_get x.places i) (sym begins) ∙ at)) ∙ waits))
   where
     none : None ≡ Some m → ⊥
     none e = absurd cc
 waits-entry users boot (suc n) h (g, (run, follows)) i m p at waits =
-    let before = answered-in (reached_from None (outcome g.book step).records) k.user 0 users (put_at k.user there g.places) i p (ap (λ (x : Going). slice_get x.places i) (sym turn.after) ∙ at) in
+    let before = answered-in (reached_from None (outcome g.book step).records) k.user 0 users (put_at k.user there g.places) i p (ap (λ (x : RunState). slice_get x.places i) (sym turn.after) ∙ at) in
     go before.0 (put-in k.user there g.places i before.0 before.1.0) (before.1.1 m waits) (λ q was w. waits-entry users boot n g run i m q was w)
   where
     k : Pick
@@ -163,7 +163,7 @@ waits-there from user number t is = other (user == t.pick.user) is
     other false is = found (slice_get from user) refl is
 
 -- it is one that its user has
-pub mailed-entry : (users : List User) (boot : Boot) (n : ℕ) (g h : Going) (user number : ℕ) (t : Turn) (a : Answer) → IsRun users boot n g → IsMailed users g.places h user number t a → IsEntry users user number
+pub mailed-entry : (users : List User) (boot : Boot) (n : ℕ) (g h : RunState) (user number : ℕ) (t : Turn) (a : Answer) → IsRun users boot n g → IsMailed users g.places h user number t a → IsEntry users user number
 mailed-entry users boot n g h user number t a run mail =
     let p = waits-there g.places user number t (mailed-waits users g.places t mail.reached (record { user = user; number = number }) mail.to) in
     waits-entry users boot n g run user number p.0 p.1.0 p.1.1

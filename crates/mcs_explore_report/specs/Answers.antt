@@ -5,7 +5,7 @@ use Rattle.mcs_types.specs.declared.entry.Answer.TheVariants as answer
 use Rattle.mcs_types.specs.declared.entry.Entry.{Entry}
 use Rattle.mcs_turns.specs.declared.position.Position.{Position}
 use Rattle.mcs_turns.specs.declared.position.Pick.{Pick}
-use Rattle.mcs_turns.specs.Turns.{User, Going, is_send_at}
+use Rattle.mcs_turns.specs.Turns.{User, RunState, is_send_at}
 use Rattle.mcs_explore_walk.specs.declared.walk.Turn.{Turn}
 use Rattle.mcs_explore_orders.specs.Shown.{Made}
 use Rattle.mcs_explore_report.specs.declared.answers.Witness.{Witness}
@@ -118,7 +118,7 @@ AreNotedMail users from place t (r ∷ rs) old new = (mid : Tables) × (IsNotedM
 
 -- by a turn from these positions to this state this answer reached a thread, and this entry of its
 -- user waited before it and comes to it
-pub record IsMailed (users : List User) (from : List Position) (g : Going) (user number : ℕ) (t : Turn) (a : Answer) : Type 0 where
+pub record IsMailed (users : List User) (from : List Position) (g : RunState) (user number : ℕ) (t : Turn) (a : Answer) : Type 0 where
   pub index : ℕ
   pub reached : Reached
   pub at : slice_get (brought g.book) index ≡ Some reached
@@ -132,7 +132,7 @@ pub record IsAnswerOf (users : List User) (turns : List Made) (user number : ℕ
   pub at : slice_get turns index ≡ Some made
   pub place : made.place ≡ t.place
   pub turn : made.turn ≡ t.turn
-  pub is : IsOwnAnswer made user number t.answer ⊎ IsMailed users made.from made.going user number made.turn t.answer
+  pub is : IsOwnAnswer made user number t.answer ⊎ IsMailed users made.from made.run_state user number made.turn t.answer
 
 -- each answer of an entry is that of a turn that was shown, and each answer of such a turn but
 -- Waits is among those of its entry
@@ -143,4 +143,4 @@ pub record AreAnswersOf (users : List User) (turns : List Made) (tables : Tables
 
 -- what a turn that was shown delivered to an entry that waited is among the answers of that entry
 abbrev pub AreMailOf : List User → List Made → Tables → Type 0
-AreMailOf users turns tables = (j : ℕ) (m : Made) (user number : ℕ) (a : Answer) (witnesses : List Witness) → slice_get turns j ≡ Some m → IsMailed users m.from m.going user number m.turn a → table_of tables user number ≡ Some witnesses → IsAmong witnesses a
+AreMailOf users turns tables = (j : ℕ) (m : Made) (user number : ℕ) (a : Answer) (witnesses : List Witness) → slice_get turns j ≡ Some m → IsMailed users m.from m.run_state user number m.turn a → table_of tables user number ≡ Some witnesses → IsAmong witnesses a

@@ -1,9 +1,9 @@
 -- The kinds of ends (own).
 use Rattle.std.specs.Prelude.{ℕ, ◌≡◌, ◌<◌, ◌+◌, ◌-◌, ◌^◌, ◌++◌, ◌⊎◌, Bool, true, false, min, List, [], ◌∷◌, Some, length, set, slice_get}
 use Rattle.mcs_book.specs.Boots.{Boot}
-use Rattle.mcs_turns.specs.Turns.{User, Going, IsOver, IsRun}
+use Rattle.mcs_turns.specs.Turns.{User, RunState, IsOver, IsRun}
 use Rattle.mcs_explore_report.specs.declared.ends.Standing.{Standing}
-use Rattle.mcs_explore_orders.specs.Shown.{Sight}
+use Rattle.mcs_explore_orders.specs.Shown.{SeenState}
 use Rattle.mcs_explore_report.specs.Standings.{standings}
 
 -- the standings of the users, in how many states they have these, and the place of the first of
@@ -73,7 +73,7 @@ pub record AreAllEnds (ks ds ends : List Kind) : Type 0 where
 -- some run is over in which the users have these standings
 pub record IsRunEnd (users : List User) (boot : Boot) (standing : List Standing) : Type 0 where
   pub turns : ℕ
-  pub state : Going
+  pub state : RunState
   pub run : IsRun users boot turns state
   pub over : IsOver users state
   pub is : standings users state ≡ standing
@@ -83,17 +83,17 @@ abbrev pub AreRunEnds : List User → Boot → List Kind → Type 0
 AreRunEnds users boot kinds = (standing : List Standing) → HasKind kinds standing → IsRunEnd users boot standing
 
 -- the kind is that of a state that was shown and is over
-pub record IsEndOf (users : List User) (states : List Sight) (k : Kind) : Type 0 where
+pub record IsEndOf (users : List User) (states : List SeenState) (k : Kind) : Type 0 where
   pub number : ℕ
-  pub sight : Sight
+  pub sight : SeenState
   pub at : slice_get states number ≡ Some sight
   pub over : sight.is_over ≡ true
   pub place : sight.place ≡ k.place
-  pub standing : standings users sight.going ≡ k.standing
+  pub standing : standings users sight.run_state ≡ k.standing
 
 -- each kind is that of a state that was shown and is over, no two are the same, and each such state
 -- is of one of them
-pub record AreEndsOf (users : List User) (states : List Sight) (kinds : List Kind) : Type 0 where
+pub record AreEndsOf (users : List User) (states : List SeenState) (kinds : List Kind) : Type 0 where
   pub each : (i : ℕ) (k : Kind) → slice_get kinds i ≡ Some k → IsEndOf users states k
-  pub all : (j : ℕ) (s : Sight) → slice_get states j ≡ Some s → s.is_over ≡ true → HasKind kinds (standings users s.going)
+  pub all : (j : ℕ) (s : SeenState) → slice_get states j ≡ Some s → s.is_over ≡ true → HasKind kinds (standings users s.run_state)
   pub apart : (i j : ℕ) (k l : Kind) → slice_get kinds i ≡ Some k → slice_get kinds j ≡ Some l → k.standing ≡ l.standing → i ≡ j

@@ -1,11 +1,11 @@
 -- What `fails` means of a script: some run shows it, or none shows what is asked for (own).
 use Rattle.std.specs.Prelude.{ℕ, ◌≡◌, ◌⊎◌, Bool, true, false, List, Option, Some, slice_get}
 use Rattle.mcs_book.specs.Boots.{Boot}
-use Rattle.mcs_turns.specs.Turns.{User, Going, IsOver, IsRun}
+use Rattle.mcs_turns.specs.Turns.{User, RunState, IsOver, IsRun}
 use Rattle.mcs_explore_walk.specs.declared.walk.Turn.{Turn}
-use Rattle.mcs_explore_questions.specs.declared.asking.Asked.{Asked}
-use Rattle.mcs_explore_questions.specs.declared.asking.Asked.TheVariants as asked
-use Rattle.mcs_explore_questions.specs.declared.asking.Event.{Event}
+use Rattle.mcs_explore_questions.specs.declared.questions.Asked.{Asked}
+use Rattle.mcs_explore_questions.specs.declared.questions.Asked.TheVariants as asked
+use Rattle.mcs_explore_questions.specs.declared.questions.Event.{Event}
 use Rattle.mcs_explore_script.specs.declared.questions.AskedLine.{AskedLine}
 use Rattle.mcs_explore_script.specs.declared.lives.Live.{Live}
 use Rattle.mcs_explore_script.specs.declared.script.UserScript.{UserScript}
@@ -23,7 +23,7 @@ use Rattle.mcs_explore_report.specs.Verdicts.{lacks}
 -- some run that is over has not answered an entry for good
 pub record SomeEndLacks (users : List User) (boot : Boot) (e : Event) : Type 0 where
   pub turns : ℕ
-  pub state : Going
+  pub state : RunState
   pub run : IsRun users boot turns state
   pub over : IsOver users state
   pub lacks : lacks e (standings users state) ≡ true
@@ -31,12 +31,12 @@ pub record SomeEndLacks (users : List User) (boot : Boot) (e : Event) : Type 0 w
 -- a question fails in some run: in a state, or by a turn
 pub record FailsInRun (users : List User) (boot : Boot) (q : Asked) : Type 0 where
   pub turns : ℕ
-  pub state : Going
+  pub state : RunState
   pub run : IsRun users boot turns state
   pub turn : Option Turn
-  pub going : Going
-  pub is : IsSeenFrom users state turn going
-  pub fails : fails users q turn going ≡ true
+  pub run_state : RunState
+  pub is : IsSeenFrom users state turn run_state
+  pub fails : fails users q turn run_state ≡ true
 
 -- in some run a user that must not get stuck is stuck: no run continues from there to an answer of
 -- it
@@ -45,7 +45,7 @@ pub record HasStuckUser (s : UserScript) : Type 0 where
   pub live : Live
   pub at : slice_get s.lives.items index ≡ Some live
   pub turns : ℕ
-  pub state : Going
+  pub state : RunState
   pub run : IsRun s.users s.boot turns state
   pub stuck : IsLive s.users live state → ⊥
 
@@ -70,7 +70,7 @@ pub record HasFailingQuestion (s : UserScript) : Type 0 where
 -- some run is over, and in it a user is not done, and waits where no question lets it wait for ever
 pub record HasBadEnd (s : UserScript) : Type 0 where
   pub turns : ℕ
-  pub state : Going
+  pub state : RunState
   pub run : IsRun s.users s.boot turns state
   pub over : IsOver s.users state
   pub bad : are_idle s.asked.items (standings s.users state) ≡ false

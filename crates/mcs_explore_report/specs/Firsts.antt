@@ -4,19 +4,19 @@ use Rattle.mcs_types.specs.declared.entry.Answer.{Answer}
 use Rattle.mcs_types.specs.declared.entry.Answer.TheVariants as answer
 use Rattle.mcs_turns.specs.Turns.{User}
 use Rattle.mcs_explore_walk.specs.declared.walk.Turn.{Turn}
-use Rattle.mcs_explore_orders.specs.Shown.{Made, Shown, Sight}
+use Rattle.mcs_explore_orders.specs.Shown.{Made, Shown, SeenState}
 use Rattle.mcs_explore_report.specs.declared.answers.Witness.{Witness}
 use Rattle.mcs_explore_script.specs.declared.questions.AskedLine.{AskedLine}
-use Rattle.mcs_explore_report.specs.declared.judging.Sighting.{Sighting}
+use Rattle.mcs_explore_report.specs.declared.judgement.Sighting.{Sighting}
 use Rattle.mcs_explore_report.specs.Answers.{IsMailed, IsOwnAnswer, Tables, table_of}
 use Rattle.mcs_explore_report.specs.Ends.{Kind}
 use Rattle.mcs_explore_report.specs.Judging.{fails}
 use Rattle.mcs_explore_report.specs.Standings.{standings}
 
 -- a state in this place was shown no later than the one with the number j
-pub record IsStateBefore (states : List Sight) (place j : ℕ) : Type 0 where
+pub record IsStateBefore (states : List SeenState) (place j : ℕ) : Type 0 where
   pub number : ℕ
-  pub sight : Sight
+  pub sight : SeenState
   pub at : slice_get states number ≡ Some sight
   pub there : sight.place ≡ place
   pub before : number ≤ j
@@ -31,11 +31,11 @@ pub record IsTurnBefore (turns : List Made) (place j : ℕ) : Type 0 where
 
 -- a turn gave an entry this answer: its own, but Waits, or what reached it
 abbrev pub HasGiven : List User → Made → ℕ → ℕ → Answer → Type 0
-HasGiven users m user number a = (IsOwnAnswer m user number a × (a ≡ answer.Waits → ⊥)) ⊎ IsMailed users m.from m.going user number m.turn a
+HasGiven users m user number a = (IsOwnAnswer m user number a × (a ≡ answer.Waits → ⊥)) ⊎ IsMailed users m.from m.run_state user number m.turn a
 
 -- for each kind of ends, no final state with the same standings was shown before that of the kind
-abbrev pub AreFirstEnds : List User → List Sight → List Kind → Type 0
-AreFirstEnds users states kinds = (i j : ℕ) (k : Kind) (s : Sight) → slice_get kinds i ≡ Some k → slice_get states j ≡ Some s → s.is_over ≡ true → standings users s.going ≡ k.standing → IsStateBefore states k.place j
+abbrev pub AreFirstEnds : List User → List SeenState → List Kind → Type 0
+AreFirstEnds users states kinds = (i j : ℕ) (k : Kind) (s : SeenState) → slice_get kinds i ≡ Some k → slice_get states j ≡ Some s → s.is_over ≡ true → standings users s.run_state ≡ k.standing → IsStateBefore states k.place j
 
 -- no turn that gave an answer was shown before the one that is kept of it
 abbrev pub AreFirstAnswers : List User → List Made → Tables → Type 0
@@ -43,10 +43,10 @@ AreFirstAnswers users turns tables = (a b i j : ℕ) (witnesses : List Witness) 
 
 -- no state and no turn in which a question fails was shown before the one that is kept of it
 pub record AreFirstFailures (users : List User) (questions : List AskedLine) (shown : Shown) (failed : List (Option Sighting)) : Type 0 where
-  pub states : (i j place : ℕ) (q : AskedLine) (s : Sight) → slice_get questions i ≡ Some q → slice_get failed i ≡ Some (Some (record { place = place; turn = None })) → slice_get shown.states j ≡ Some s
-      → fails users q.asked None s.going ≡ true → IsStateBefore shown.states place j
+  pub states : (i j place : ℕ) (q : AskedLine) (s : SeenState) → slice_get questions i ≡ Some q → slice_get failed i ≡ Some (Some (record { place = place; turn = None })) → slice_get shown.states j ≡ Some s
+      → fails users q.asked None s.run_state ≡ true → IsStateBefore shown.states place j
   pub turns : (i j place : ℕ) (t : Turn) (q : AskedLine) (m : Made) → slice_get questions i ≡ Some q → slice_get failed i ≡ Some (Some (record { place = place; turn = Some t })) → slice_get shown.turns j ≡ Some m
-      → fails users q.asked (Some m.turn) m.going ≡ true → IsTurnBefore shown.turns place j
+      → fails users q.asked (Some m.turn) m.run_state ≡ true → IsTurnBefore shown.turns place j
 
 pub record AreFirst (users : List User) (questions : List AskedLine) (shown : Shown) (kinds : List Kind) (tables : Tables) (failed : List (Option Sighting)) : Type 0 where
   pub ends : AreFirstEnds users shown.states kinds

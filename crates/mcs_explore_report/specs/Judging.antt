@@ -13,14 +13,14 @@ use Rattle.mcs_text.specs.Reading.{words_of}
 use Rattle.mcs_text.specs.Table.{answer_text, record_text}
 use Rattle.mcs_sim.specs.Trace.{sent_with}
 use Rattle.mcs_turns.specs.declared.position.Position.{Position}
-use Rattle.mcs_turns.specs.Turns.{User, Going}
+use Rattle.mcs_turns.specs.Turns.{User, RunState}
 use Rattle.mcs_explore_walk.specs.declared.walk.Turn.{Turn}
-use Rattle.mcs_explore_questions.specs.declared.asking.Asked.{Asked}
-use Rattle.mcs_explore_questions.specs.declared.asking.Asked.TheVariants as asked
-use Rattle.mcs_explore_questions.specs.declared.asking.Event.{Event}
-use Rattle.mcs_explore_questions.specs.declared.asking.Span.{Span}
-use Rattle.mcs_explore_questions.specs.declared.asking.Until.{Until}
-use Rattle.mcs_explore_questions.specs.declared.asking.Until.TheVariants as until
+use Rattle.mcs_explore_questions.specs.declared.questions.Asked.{Asked}
+use Rattle.mcs_explore_questions.specs.declared.questions.Asked.TheVariants as asked
+use Rattle.mcs_explore_questions.specs.declared.questions.Event.{Event}
+use Rattle.mcs_explore_questions.specs.declared.questions.Span.{Span}
+use Rattle.mcs_explore_questions.specs.declared.questions.Until.{Until}
+use Rattle.mcs_explore_questions.specs.declared.questions.Until.TheVariants as until
 use Rattle.mcs_explore_questions.specs.Patterns.{is_match}
 use Rattle.mcs_explore_script.specs.UserLists.{user_of}
 
@@ -31,7 +31,7 @@ answered_by (Some status.Running) p = p.next
 answered_by st p = unwrap_or p.waited p.next
 
 -- how many the user in a place was
-abbrev pub answered : List User → Going → ℕ → ℕ
+abbrev pub answered : List User → RunState → ℕ → ℕ
 answered users g i = elim (slice_get users i) [
   | None ↦ 0
   | Some u ↦ elim (slice_get g.places i) [ None ↦ 0 | Some p ↦ answered_by (status_of (log_of g.book) u.thread) p ]
@@ -52,14 +52,14 @@ abbrev pub is_within : Span → Option Status → Position → Bool
 is_within s st p = nat_le s.from (answered_by st p) && nat_lt (ended_by s.until st p) s.to
 
 -- whether the user in a place is
-abbrev pub is_at : List User → Going → Span → ℕ → Bool
+abbrev pub is_at : List User → RunState → Span → ℕ → Bool
 is_at users g s i = elim (slice_get users i) [
   | None ↦ false
   | Some u ↦ elim (slice_get g.places i) [ None ↦ false | Some p ↦ is_within s (status_of (log_of g.book) u.thread) p ]
 ]
 
 -- whether the user of a span is in it
-abbrev pub is_in : List User → Going → Span → Bool
+abbrev pub is_in : List User → RunState → Span → Bool
 is_in users g s = elim (user_of users s.thread) [ None ↦ false | Some i ↦ is_at users g s i ]
 
 -- whether a turn gives an entry
@@ -72,7 +72,7 @@ abbrev pub gave_by : Position → ℕ
 gave_by p = elim p.waited [ None ↦ p.next | Some last ↦ last + 1 ]
 
 -- whether a user has given an entry
-abbrev pub has_given : List User → Going → Event → Bool
+abbrev pub has_given : List User → RunState → Event → Bool
 has_given users g e = elim (user_of users e.thread) [
   | None ↦ false
   | Some i ↦ elim (slice_get g.places i) [ None ↦ false | Some p ↦ nat_le e.number (gave_by p) ]
@@ -104,18 +104,18 @@ abbrev pub is_line : List ℕ → List ℕ → Bool
 is_line pattern line = is_match pattern (bare line)
 
 -- whether a question fails in a state
-abbrev pub fails_in : List User → Asked → Going → Bool
+abbrev pub fails_in : List User → Asked → RunState → Bool
 fails_in users (asked.Apart spans) g = list_all (is_in users g) spans.items
 fails_in users _ g = false
 
 -- whether it fails by a turn that led to this state
-abbrev pub fails_by : List User → Asked → Turn → Going → Bool
+abbrev pub fails_by : List User → Asked → Turn → RunState → Bool
 fails_by users (asked.Never pattern) t h = list_any (is_line pattern.items) (last_texts h.book)
 fails_by users (asked.Before first second) t h = gives users t second && not (has_given users h first)
 fails_by users _ t h = false
 
 -- whether it fails in a state, or by the turn that led there
-abbrev pub fails : List User → Asked → Option Turn → Going → Bool
+abbrev pub fails : List User → Asked → Option Turn → RunState → Bool
 fails users q None g = fails_in users q g
 fails users q (Some t) g = fails_by users q t g
 

@@ -3,7 +3,7 @@ use Rattle.std.specs.Prelude.{List, Option}
 use Rattle.mcs_turns.specs.Turns.{User}
 use Rattle.mcs_explore_orders.specs.Shown.{Shown}
 use Rattle.mcs_explore_script.specs.declared.questions.AskedLine.{AskedLine}
-use Rattle.mcs_explore_report.specs.declared.judging.Sighting.{Sighting}
+use Rattle.mcs_explore_report.specs.declared.judgement.Sighting.{Sighting}
 use Rattle.mcs_explore_script.specs.declared.lives.Live.{Live}
 use Rattle.mcs_explore_report.specs.Answers.{AreAnswersOf, AreMailOf, Tables}
 use Rattle.mcs_explore_report.specs.Ends.{AreEndsOf, Kind}

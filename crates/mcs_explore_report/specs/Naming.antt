@@ -8,8 +8,8 @@ use Rattle.mcs_book.specs.Objects.{makes_kind}
 use Rattle.mcs_lab_check.specs.Names.{object_of, queue_of}
 use Rattle.mcs_text.specs.Reading.{is_digit, words_of}
 use Rattle.mcs_text.specs.Spelling.{queue_name}
-use Rattle.mcs_explore_questions.specs.declared.asking.Asked.{Asked}
-use Rattle.mcs_explore_questions.specs.declared.asking.Asked.TheVariants as asked
+use Rattle.mcs_explore_questions.specs.declared.questions.Asked.{Asked}
+use Rattle.mcs_explore_questions.specs.declared.questions.Asked.TheVariants as asked
 
 -- whether a word is the name of a message: an m and digits
 abbrev pub is_message : List ℕ → Bool

@@ -4,11 +4,11 @@ use Rattle.std.specs.List.{filter, list_all, list_any}
 use Rattle.mcs_turns.specs.Turns.{User}
 use Rattle.mcs_explore_search.specs.declared.search.Edge.{Edge}
 use Rattle.mcs_explore_walk.specs.declared.walk.Turn.{Turn}
-use Rattle.mcs_explore_questions.specs.declared.asking.Asked.{Asked}
+use Rattle.mcs_explore_questions.specs.declared.questions.Asked.{Asked}
 use Rattle.mcs_explore_questions.specs.Asking.{is_live, is_question}
 use Rattle.mcs_explore_script.specs.declared.questions.AskedLine.{AskedLine}
 use Rattle.mcs_explore_report.specs.declared.findings.Judged.{Judged}
-use Rattle.mcs_explore_report.specs.declared.judging.Sighting.{Sighting}
+use Rattle.mcs_explore_report.specs.declared.judgement.Sighting.{Sighting}
 use Rattle.mcs_explore_report.specs.declared.outcomes.Outcome.{Outcome}
 use Rattle.mcs_explore_report.specs.declared.outcomes.Outcome.TheVariants as outcome
 use Rattle.mcs_explore_report.specs.declared.verdicts.Verdict.{Verdict}

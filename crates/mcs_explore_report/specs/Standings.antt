@@ -6,7 +6,7 @@ use Rattle.mcs_book.specs.History.{log_of}
 use Rattle.mcs_book.specs.Statuses.{status_of}
 use Rattle.mcs_turns.specs.declared.position.Position.{Position}
 use Rattle.mcs_turns.specs.Due.{due_by}
-use Rattle.mcs_turns.specs.Turns.{User, Going}
+use Rattle.mcs_turns.specs.Turns.{User, RunState}
 use Rattle.mcs_explore_report.specs.declared.ends.Standing.{Standing}
 use Rattle.mcs_explore_report.specs.Judging.{answered_by}
 
@@ -25,7 +25,7 @@ standing_by u st p = cond (left || (is_blocked st && is_some p.waited)) (Some (r
     left = nat_lt (due_by st p) (length u.entries)
 
 -- the standing of the user in a place
-abbrev pub standing_of : List User → Going → ℕ → Option Standing
+abbrev pub standing_of : List User → RunState → ℕ → Option Standing
 standing_of users g i = elim (slice_get users i) [
   | None ↦ None
   | Some u ↦ elim (slice_get g.places i) [ None ↦ None | Some p ↦ standing_by u (status_of (log_of g.book) u.thread) p ]
@@ -37,9 +37,9 @@ listed None = []
 listed (Some s) = s ∷ []
 
 -- the standings of the users in the first n places, and those of all
-abbrev pub standings_below : List User → Going → ℕ → List Standing
+abbrev pub standings_below : List User → RunState → ℕ → List Standing
 standings_below users g zero = []
 standings_below users g (suc n) = standings_below users g n ++ listed (standing_of users g n)
 
-abbrev pub standings : List User → Going → List Standing
+abbrev pub standings : List User → RunState → List Standing
 standings users g = standings_below users g (length users)

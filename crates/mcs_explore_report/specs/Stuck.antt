@@ -6,14 +6,14 @@ use Rattle.mcs_types.specs.declared.entry.Answer.TheVariants as answer
 use Rattle.mcs_book.specs.Boots.{Boot}
 use Rattle.mcs_turns.specs.declared.position.Position.{Position}
 use Rattle.mcs_turns.specs.declared.position.Pick.{Pick}
-use Rattle.mcs_turns.specs.Turns.{User, Going, Follows, IsRun, is_program}
+use Rattle.mcs_turns.specs.Turns.{User, RunState, Follows, IsRun, is_program}
 use Rattle.mcs_explore_search.specs.declared.search.Edge.{Edge}
 use Rattle.mcs_explore_search.specs.Paths.{Run}
 use Rattle.mcs_explore_search.specs.Reaching.{IsLed}
 use Rattle.mcs_explore_search.specs.Search.{Entries}
 use Rattle.mcs_explore_walk.specs.declared.walk.Turn.{Turn}
 use Rattle.mcs_explore_walk.specs.Walks.{last_answer}
-use Rattle.mcs_explore_orders.specs.Shown.{Made, Shown, Sight}
+use Rattle.mcs_explore_orders.specs.Shown.{Made, Shown, SeenState}
 use Rattle.mcs_explore_orders.specs.Trails.{Leads}
 use Rattle.mcs_explore_script.specs.declared.lives.Live.{Live}
 use Rattle.mcs_turns.specs.declared.reached.Reached.{Reached}
@@ -34,7 +34,7 @@ settled_by u None count = nat_le (length u.entries) count
 settled_by u (Some e) count = not (is_program u.ops) && (nat_lt e count && not (comes_again u.again e))
 
 -- whether the user of a question has been answered what is asked for; true if there is no such user
-abbrev pub is_settled : List User → Live → Going → Bool
+abbrev pub is_settled : List User → Live → RunState → Bool
 is_settled users l g = elim (slice_get users l.user) [ None ↦ true | Some u ↦ settled_by u l.entry (answered users g l.user) ]
 
 -- whether a question is about an entry of a user
@@ -56,20 +56,20 @@ abbrev pub answers : List User → Live → Turn → Answer → List Position �
 answers users l t a from rs = (is_about l t.pick && not (is_waits a)) || list_any (is_mailed users from t l) rs
 
 -- whether a turn from a state to another does, by the newest line of its book
-abbrev pub answers_last : List User → Live → Turn → Going → Going → Bool
+abbrev pub answers_last : List User → Live → Turn → RunState → RunState → Bool
 answers_last users l t g h = elim (last_answer h.book) [ None ↦ false | Some a ↦ answers users l t a g.places (brought h.book) ]
 
 -- what is asked about is settled in a state, or a turn from it answers it
-abbrev pub IsNear : List User → Live → Going → Type 0
-IsNear users l g = (is_settled users l g ≡ true) ⊎ ((t : Turn) × ((h : Going) × (Leads users t g h × (answers_last users l t g h ≡ true))))
+abbrev pub IsNear : List User → Live → RunState → Type 0
+IsNear users l g = (is_settled users l g ≡ true) ⊎ ((t : Turn) × ((h : RunState) × (Leads users t g h × (answers_last users l t g h ≡ true))))
 
 -- a run leads from a state to one where what is asked about is settled, or to a turn that answers
 -- it
-pub record IsLive (users : List User) (l : Live) (g : Going) : Type 0 where
+pub record IsLive (users : List User) (l : Live) (g : RunState) : Type 0 where
   pub turns : ℕ
-  pub going : Going
-  pub run : Run (Follows users) g turns going
-  pub near : IsNear users l going
+  pub run_state : RunState
+  pub run : Run (Follows users) g turns run_state
+  pub near : IsNear users l run_state
 
 -- what is noted of a question: whether it was settled in each state that was shown, and the places
 -- from which a turn answered it
@@ -83,7 +83,7 @@ pub record Asking : Type 0 where
   pub notes : List Noted
 
 -- with a state more, and with a turn more
-abbrev pub with_sight : List User → Going → Live → Noted → Noted
+abbrev pub with_sight : List User → RunState → Live → Noted → Noted
 with_sight users g l n = record n { settled = n.settled ++ is_settled users l g ∷ [] }
 
 abbrev pub with_made : List User → ℕ → Turn → Answer → List Position → List Reached → Live → Noted → Noted
@@ -96,8 +96,8 @@ pub record AreNotedOn (change : Live → Noted → Noted) (lives : List Live) (o
 
 -- what is noted of a question is what was shown
 pub record IsNotedBy (users : List User) (shown : Shown) (l : Live) (n : Noted) : Type 0 where
-  pub settled : n.settled ≡ map (λ (s : Sight). is_settled users l s.going) shown.states
-  pub answered : n.answered ≡ flat_map (λ (m : Made). cond (answers users l m.turn m.answer m.from (brought m.going.book)) (m.place ∷ []) []) shown.turns
+  pub settled : n.settled ≡ map (λ (s : SeenState). is_settled users l s.run_state) shown.states
+  pub answered : n.answered ≡ flat_map (λ (m : Made). cond (answers users l m.turn m.answer m.from (brought m.run_state.book)) (m.place ∷ []) []) shown.turns
 
 -- each question has its notes
 pub record AreNotedBy (users : List User) (lives : List Live) (shown : Shown) (notes : List Noted) : Type 0 where
@@ -125,11 +125,11 @@ IsFirstUnled edges marks (Some place) = (place < length marks) × ((IsLed edges 
 -- the first place, of all that were found, from which no run leads to an answer
 pub record IsStuckAt {K : Type 0} (users : List User) (boot : Boot) (l : Live) (found : Entries K Turn) (place : ℕ) : Type 0 where
   pub within : place < length found
-  pub stuck : (g : Going) → IsAt users boot found place g → IsLive users l g → ⊥
-  pub before : (i : ℕ) (g : Going) → i < place → IsAt users boot found i g → IsLive users l g
+  pub stuck : (g : RunState) → IsAt users boot found place g → IsLive users l g → ⊥
+  pub before : (i : ℕ) (g : RunState) → i < place → IsAt users boot found i g → IsLive users l g
 
 abbrev pub IsStuckFirst : {K : Type 0} → List User → Boot → Live → Entries K Turn → Option ℕ → Type 0
-IsStuckFirst users boot l found None = (n : ℕ) (g : Going) → IsRun users boot n g → IsLive users l g
+IsStuckFirst users boot l found None = (n : ℕ) (g : RunState) → IsRun users boot n g → IsLive users l g
 IsStuckFirst users boot l found (Some place) = IsStuckAt users boot l found place
 
 -- for each user, the first place from which no edges lead to an answer is where it is stuck first;
@@ -142,5 +142,5 @@ pub record AreDecided {K : Type 0} (users : List User) (boot : Boot) (lives : Li
 -- were not expanded
 pub record AreStuckUnled {K : Type 0} (users : List User) (boot : Boot) (lives : List Live) (found : Entries K Turn) (edges : List (Edge Turn)) (notes : List Noted) : Type 0 where
   pub long : length notes ≡ length lives
-  pub each : (i : ℕ) (l : Live) (n : Noted) (place : ℕ) (g : Going) → slice_get lives i ≡ Some l → slice_get notes i ≡ Some n → place < length found → (IsLed edges (first_marks (length found) n) place → ⊥) → IsAt users boot found place g
+  pub each : (i : ℕ) (l : Live) (n : Noted) (place : ℕ) (g : RunState) → slice_get lives i ≡ Some l → slice_get notes i ≡ Some n → place < length found → (IsLed edges (first_marks (length found) n) place → ⊥) → IsAt users boot found place g
       → IsLive users l g → ⊥

@@ -4,8 +4,8 @@ ghost use Rattle.mcs_explore_report.specs.Standings.{is_blocked, listed, standin
 ghost use Rattle.mcs_explore_report.specs.Endings.{entry_of, waits_for};
 ghost use Rattle.mcs_explore_report.specs.Ends.{AreMerged, Kind, IsKindAt, IsMerged, IsNoKind, IsNoted, IsNotedIf, with_more};
 
-use crate::judging::answered_by;
-use crate::naming::object_in;
+use crate::judgement::answered_by;
+use crate::references::object_in;
 use mcs_explore_orders::{OrdersFault, Users, Walk};
 use mcs_queues::PlainLines;
 use mcs_types::{ObjId, Status};

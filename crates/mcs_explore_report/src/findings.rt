@@ -7,18 +7,18 @@ ghost use Rattle.mcs_explore_report.specs.Outcomes.{AreFirstPlaces, IsHeld, IsMi
 ghost use Rattle.mcs_explore_report.specs.Verdicts.{IsVerdict, failed_at};
 
 use crate::again::given_again;
+use crate::answer_texts::text_of;
 use crate::answers::Witness;
 use crate::endings::{Ending, are_idle, ending_of};
 use crate::ends::{End, Ends};
 use crate::frontier::{deep_ends, is_given};
-use crate::judging::Sighting;
+use crate::judgement::Sighting;
 use crate::outcomes::{Outcome, Unseen, missed};
-use crate::saying::text_of;
 use crate::scripts::turns_of;
 use crate::slots::{Origin, all_origins};
 use crate::stuck_users::{StuckUsers, first_stuck, stuck_of, stuck_users};
 use crate::verdicts::{Grounds, Verdict, verdict_on};
-use crate::watching::{Progress, Watched};
+use crate::watcher::{Progress, Watched};
 use mcs_explore_orders::{Orders, Users};
 use mcs_explore_questions::{Asked, Event, Span};
 use mcs_explore_script::{AskedLine, UserScript};

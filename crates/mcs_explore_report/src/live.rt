@@ -5,7 +5,7 @@ ghost use Rattle.std.specs.List.{list_any};
 ghost use Rattle.mcs_explore_search.specs.Reaching.{AreWithin};
 ghost use Rattle.mcs_explore_report.specs.Stuck.{AreNotedOn, IsFirstUnled, answers, comes_again, first_marks, is_about, is_mailed, is_settled, is_waits, settled_by, with_made, with_mark, with_marks, with_sight};
 
-use crate::judging::answered;
+use crate::judgement::answered;
 use crate::mail::mailed_to;
 use mcs_explore_orders::{Orders, OrdersFault, Turn, UserList, Users, Walk, Watch};
 use mcs_explore_script::Live;

@@ -5,7 +5,7 @@ ghost use Rattle.std.specs.List.{list_any};
 ghost use Rattle.mcs_types.specs.Changes.{makes_object};
 ghost use Rattle.mcs_explore_report.specs.Modes.{any_later, any_message, are_numbered, is_proved, makes_objects, mode_of};
 
-use crate::naming::{names_later, names_message};
+use crate::references::{names_later, names_message};
 use mcs_explore_orders::Users;
 use mcs_explore_script::AskedLine;
 use mcs_kernel::Boot;

@@ -2,7 +2,7 @@
 ghost use Rattle.std.specs.Prelude.{◌≡◌};
 ghost use Rattle.mcs_explore_report.specs.Outcomes.{fails, holds, missed};
 
-use crate::judging::Sighting;
+use crate::judgement::Sighting;
 
 /// What no order showed.
 #[derive(Clone, Copy, PartialEq, Eq)]

@@ -8,14 +8,14 @@ ghost use Rattle.mcs_explore_report.specs.Outcomes.{AreHeldBelow, HasMissed, IsJ
 ghost use Rattle.mcs_explore_report.specs.Scripts.{IsScriptBy};
 
 use crate::bounds::states_before;
-use crate::exploring::{Wanted, watched};
+use crate::exploration::{Wanted, watched};
 use crate::findings::{AnsweredEntry, Findings, Judged};
 use crate::json::write_json;
-use crate::judging::Sighting;
-use crate::saving::{Saves, save_all};
+use crate::judgement::Sighting;
+use crate::saver::{Saves, save_all};
 use crate::scripts::{script_by, turns_of};
 use crate::text::write_text;
-use crate::watching::{Progress, Quiet};
+use crate::watcher::{Progress, Quiet};
 use mcs_explore_questions::ExploreFault;
 use mcs_explore_script::{UserScript, read_script};
 use mcs_lab_check::LabFault;

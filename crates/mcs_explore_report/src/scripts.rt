@@ -1,13 +1,13 @@
 //! The scripts of steps that show what is reported.
 ghost use Rattle.std.specs.Prelude.{◌≡◌, ◌++◌, IfOk, OnOk};
-ghost use Rattle.mcs_turns.specs.Turns.{Going, beginning};
+ghost use Rattle.mcs_turns.specs.Turns.{RunState, beginning};
 ghost use Rattle.mcs_explore_search.specs.Paths.{Path};
 ghost use Rattle.mcs_explore_search.specs.Search.{listed, path_of};
 ghost use Rattle.mcs_explore_orders.specs.Trails.{Leads};
 ghost use Rattle.mcs_explore_equivalence.specs.Runs.{IsReached};
 ghost use Rattle.mcs_explore_report.specs.Scripts.{IsScriptBy};
 
-use crate::judging::Sighting;
+use crate::judgement::Sighting;
 use mcs_explore_orders::{Orders, Turn, Walk, Watch, retrace};
 use mcs_explore_script::{UserScript, fault_of, run_text};
 use mcs_lab_check::LabFault;
@@ -46,7 +46,7 @@ pub fn walk_by(
 ) -> Result<Walk<PlainLines>, LabFault>
     ensures reached { IfOk result (λ walk.
         IsReached script.now.users script.now.boot walk) }
-    ensures path { IfOk result (λ walk. (g : Going)
+    ensures path { IfOk result (λ walk. (g : RunState)
         → Path (Leads script.now.users) (beginning script.now.users script.now.boot) turns.now g
         → walk ≡ g) }
 {

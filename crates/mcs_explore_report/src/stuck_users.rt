@@ -4,9 +4,9 @@ ghost use Rattle.mcs_explore_search.specs.Reaching.{AreWithin};
 ghost use Rattle.mcs_explore_report.specs.Outcomes.{count_lives, stuck_of};
 ghost use Rattle.mcs_explore_report.specs.Stuck.{IsFirstUnled, Noted, first_marks};
 
-use crate::judging::Sighting;
+use crate::judgement::Sighting;
 use crate::live::stuck_at;
-use crate::watching::{Progress, Watched};
+use crate::watcher::{Progress, Watched};
 use mcs_explore_orders::Orders;
 use mcs_explore_script::{AskedLine, Live};
 use mcs_lab_check::LabFault;

@@ -2,13 +2,13 @@
 use crate::endings::{Ending, is_idle};
 use crate::ends::Standing;
 use crate::findings::{Answered, AnsweredEntry, Findings, Judged, KindOfEnd, entry_text};
-use crate::heading::put_head;
-use crate::judging::Sighting;
+use crate::header::put_head;
+use crate::judgement::Sighting;
 use crate::outcomes::Outcome;
 use crate::report::{Explored, Report};
 use crate::slots::Origin;
 use crate::stuck_users::{StuckUsers, seen_at};
-use crate::watching::Progress;
+use crate::watcher::Progress;
 use mcs_explore_questions::Event;
 use mcs_explore_script::{AskedLine, UserScript};
 use mcs_lab_check::{LabFault, Labels};

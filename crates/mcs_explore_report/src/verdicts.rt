@@ -2,10 +2,10 @@
 ghost use Rattle.std.specs.Prelude.{◌≡◌, ◌↔◌, IsTrue, IfOk, is_none, is_some};
 ghost use Rattle.mcs_explore_report.specs.Verdicts.{IsAlways, IsEndSearched, IsSearched, IsVerdict, answers_of, failed_at, is_said, lacks, lacks_one};
 
+use crate::answer_texts::text_of;
 use crate::answers::{Answers, Witness};
 use crate::ends::{End, Standing};
-use crate::judging::Sighting;
-use crate::saying::text_of;
+use crate::judgement::Sighting;
 use mcs_explore_orders::Users;
 use mcs_explore_questions::{Asked, Event, is_match};
 use mcs_explore_script::AskedLine;

@@ -24,7 +24,7 @@ use Rattle.mcs_state.specs.Saying.{row_said}
 use Rattle.mcs_state.specs.Tables.{core_said}
 use Rattle.mcs_turns.specs.declared.position.Pick.{Pick}
 use Rattle.mcs_turns.specs.Due.{choices}
-use Rattle.mcs_turns.specs.Turns.{User, Going, ArePicks, AreInRange}
+use Rattle.mcs_turns.specs.Turns.{User, RunState, ArePicks, AreInRange}
 use Rattle.mcs_users.specs.Users.{change_slots}
 use Rattle.mcs_turns.proofs.Choices.{length-choices}
 use Rattle.mcs_turns.proofs.RunLaws.{run-legal, run-long}
@@ -304,14 +304,14 @@ same-decoded f t xs ys n left right is =
     same-places xs ys (left ∙ sym right) (λ i k. alone (option_numbers f) (option-decoded f t) (slice_get xs i) (slice_get ys i) (is i (subst (λ m. i < m) left k)))
 
 -- the parts of equal rows
-record SameParts (numbered : Bool) (users : List User) (g h : Going) (ks js : List (List Pick)) : Type 0 where
+record SameParts (numbered : Bool) (users : List User) (g h : RunState) (ks js : List (List Pick)) : Type 0 where
   pub counts : count_numbers numbered (log_of g.book) ≡ count_numbers numbered (log_of h.book)
   pub places : (i : ℕ) → i < length users → option_numbers position_numbers (slice_get g.places i) ≡ option_numbers position_numbers (slice_get h.places i)
   pub choices : (i : ℕ) → i < g.book.boot.cores
       → option_numbers (list_numbers pick_numbers) (slice_get (choices ks g.stale) i) ≡ option_numbers (list_numbers pick_numbers) (slice_get (choices js h.stale) i)
   pub objects : object_rows (change_slots users) numbered (log_of g.book) ≡ object_rows (change_slots users) numbered (log_of h.book)
 
-same-parts : (numbered : Bool) (users : List User) (g h : Going) (ks js : List (List Pick)) → g.book.boot.cores ≡ h.book.boot.cores → rows_of numbered users g ks ≡ rows_of numbered users h js → SameParts numbered users g h ks js
+same-parts : (numbered : Bool) (users : List User) (g h : RunState) (ks js : List (List Pick)) → g.book.boot.cores ≡ h.book.boot.cores → rows_of numbered users g ks ≡ rows_of numbered users h js → SameParts numbered users g h ks js
 same-parts numbered users g h ks js cores rows =
     let counts = parted _ _ _ _ rows in
     let places = below-decoded (λ r. r ∷ []) row-decoded (λ i. option_numbers position_numbers (slice_get g.places i)) (λ i. option_numbers position_numbers (slice_get h.places i)) (length users) _ _ counts.1 in
@@ -321,7 +321,7 @@ same-parts numbered users g h ks js cores rows =
     record { counts = counts.0; places = places.0; choices = entered.0; objects = entered.1 }
 
 -- two runs of one boot and users that have equal rows are alike
-module _ (numbered : Bool) (users : List User) (boot : Boot) (whole : IsFaultless boot) (range : AreInRange users) (g h : Going) (left : IsReached users boot g) (right : IsReached users boot h) (rows : HaveSameRows numbered users g h) where
+module _ (numbered : Bool) (users : List User) (boot : Boot) (whole : IsFaultless boot) (range : AreInRange users) (g h : RunState) (left : IsReached users boot g) (right : IsReached users boot h) (rows : HaveSameRows numbered users g h) where
   parts : (ks js : List (List Pick)) → ArePicks users g ks → ArePicks users h js → SameParts numbered users g h ks js
   parts ks js are bre =
       let long = run-long users boot left.turns g left.run in
@@ -354,7 +354,7 @@ module _ (numbered : Bool) (users : List User) (boot : Boot) (whole : IsFaultles
       same-decoded (list_numbers pick_numbers) (list-decoded pick_numbers pick-decoded) (choices ks g.stale) (choices ks h.stale) boot.cores (length-choices ks g.stale ∙ long.stale) (length-choices ks h.stale ∙ wide.stale)
       (λ i low. both.choices i (subst (λ (b : Boot). i < b.cores) (sym long.kept) low))
 
-pub rows-alike : (numbered : Bool) (users : List User) (boot : Boot) → IsFaultless boot → AreInRange users → (g h : Going) → IsReached users boot g → IsReached users boot h → HaveSameRows numbered users g h → AreAlike numbered users boot g h
+pub rows-alike : (numbered : Bool) (users : List User) (boot : Boot) → IsFaultless boot → AreInRange users → (g h : RunState) → IsReached users boot g → IsReached users boot h → HaveSameRows numbered users g h → AreAlike numbered users boot g h
 rows-alike numbered users boot whole range g h left right rows = record {
   close = close numbered users boot whole range g h left right rows;
   choices = same-choices numbered users boot whole range g h left right rows;

@@ -12,7 +12,7 @@ use Rattle.mcs_types.specs.declared.id.ObjId.{ObjId}
 use Rattle.mcs_book.specs.Logs.{Log}
 use Rattle.mcs_book.specs.Slots.{slot}
 use Rattle.mcs_explore_rows.specs.Numbers.{below, cap_numbers, option_numbers}
-use Rattle.mcs_turns.specs.Turns.{User, Going}
+use Rattle.mcs_turns.specs.Turns.{User, RunState}
 use Rattle.mcs_explore_rows.specs.declared.hashed.Hashed.{Hashed}
 use Rattle.mcs_explore_rows.specs.Rows.{HaveSameRows, IsKey, rows_of, slots_numbers}
 use Rattle.mcs_explore_rows.specs.Naming.{Adds, Keeps, Names}
@@ -61,7 +61,7 @@ names-one met ns rows others h k = somes rows others (sym h ∙ k)
         ap (λ z. z ∷ xs) first ∙ ap (λ zs. y ∷ zs) (somes xs ys rest)
 
 -- a key stays a key when more rows were interned
-pub key-kept : (numbered : Bool) (old new : List (List ℕ)) (users : List User) (g : Going) (bytes : List ℕ) → Keeps old new → IsKey numbered old users g bytes → IsKey numbered new users g bytes
+pub key-kept : (numbered : Bool) (old new : List (List ℕ)) (users : List User) (g : RunState) (bytes : List ℕ) → Keeps old new → IsKey numbered old users g bytes → IsKey numbered new users g bytes
 key-kept numbered old new users g bytes k is = record {
   numbers = is.numbers;
   are = is.are;
@@ -73,7 +73,7 @@ key-kept numbered old new users g bytes k is = record {
 }
 
 -- states with one key have equal rows
-pub key-one : (numbered : Bool) (met : List (List ℕ)) (users : List User) (g h : Going) (bytes : List ℕ) → IsKey numbered met users g bytes → IsKey numbered met users h bytes → HaveSameRows numbered users g h
+pub key-one : (numbered : Bool) (met : List (List ℕ)) (users : List User) (g h : RunState) (bytes : List ℕ) → IsKey numbered met users g bytes → IsKey numbered met users h bytes → HaveSameRows numbered users g h
 key-one numbered met users g h bytes a b = record {
   picks = a.name.picks;
   are = a.name.are;

@@ -19,7 +19,7 @@ use Rattle.mcs_book.proofs.Sparing.{does-no_slots}
 use Rattle.mcs_turns.specs.declared.program.Fill.{Fill}
 use Rattle.mcs_turns.specs.declared.program.Saved.{Saved}
 use Rattle.mcs_turns.specs.Programs.{filled}
-use Rattle.mcs_turns.specs.Turns.{User, Going, beginning, given, saved_at, Follows, IsRun}
+use Rattle.mcs_turns.specs.Turns.{User, RunState, beginning, given, saved_at, Follows, IsRun}
 use Rattle.mcs_users.specs.Users.{change_slots, user_changes_slots}
 
 -- neither of two holds
@@ -78,25 +78,25 @@ slots-onto (r ∷ rs) R h =
     slots-then (onto rs (r ∷ R)) (r ∷ R) R (slots-onto rs (r ∷ R) both.1) (slots-record r R both.0)
 
 -- after a turn
-slots-turn : (users : List User) → change_slots users ≡ false → (g h : Going) → Follows users g h → SameSlots (log_of h.book) (log_of g.book)
+slots-turn : (users : List User) → change_slots users ≡ false → (g h : RunState) → Follows users g h → SameSlots (log_of h.book) (log_of g.book)
 slots-turn users none g h f =
     let u = f.turn.user in
     let user_none : user_changes_slots u ≡ false = none-at user_changes_slots users f.pick.user u none f.turn.is_user in
     let entry_none : changes_slots f.turn.entry ≡ false = none-at changes_slots u.entries f.pick.number f.turn.entry user_none f.turn.is_entry in
     let e = given g u f.pick f.turn.entry in
     let given_none : changes_slots e ≡ false = filled-none u.fills f.pick.number (saved_at g f.pick.user) f.turn.entry entry_none in
-    subst (λ (k : Going). SameSlots (log_of k.book) (log_of g.book)) (sym f.turn.after)
+    subst (λ (k : RunState). SameSlots (log_of k.book) (log_of g.book)) (sym f.turn.after)
     (slots-onto ((does (log_of g.book) f.core u.thread e).records) (log_of g.book) (does-no_slots (log_of g.book) f.core u.thread e given_none))
 
 -- and after a run
-slots-run : (users : List User) (boot : Boot) → change_slots users ≡ false → (n : ℕ) (g : Going) → IsRun users boot n g → SameSlots (log_of g.book) (log_of (beginning users boot).book)
-slots-run users boot none zero g run = subst (λ (h : Going). SameSlots (log_of h.book) (log_of (beginning users boot).book)) (sym run)
+slots-run : (users : List User) (boot : Boot) → change_slots users ≡ false → (n : ℕ) (g : RunState) → IsRun users boot n g → SameSlots (log_of g.book) (log_of (beginning users boot).book)
+slots-run users boot none zero g run = subst (λ (h : RunState). SameSlots (log_of h.book) (log_of (beginning users boot).book)) (sym run)
     (record { there = λ o. refl; held = λ o. refl; forms = λ o. refl; slots = λ c i. refl })
 slots-run users boot none (suc n) h (g, (run, f)) =
     slots-then (log_of h.book) (log_of g.book) (log_of (beginning users boot).book) (slots-turn users none g h f) (slots-run users boot none n g run)
 
 -- two runs have the same slots
-pub runs-slots : (users : List User) (boot : Boot) → change_slots users ≡ false → (m n : ℕ) (g h : Going) → IsRun users boot m g → IsRun users boot n h
+pub runs-slots : (users : List User) (boot : Boot) → change_slots users ≡ false → (m n : ℕ) (g h : RunState) → IsRun users boot m g → IsRun users boot n h
     → SameSlots (log_of g.book) (log_of h.book)
 runs-slots users boot none m n g h left right =
     slots-then (log_of g.book) (log_of (beginning users boot).book) (log_of h.book) (slots-run users boot none m g left)

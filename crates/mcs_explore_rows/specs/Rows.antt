@@ -21,7 +21,7 @@ use Rattle.mcs_state.specs.Tables.{core_said}
 use Rattle.mcs_turns.specs.declared.position.Position.{Position}
 use Rattle.mcs_turns.specs.declared.position.Pick.{Pick}
 use Rattle.mcs_turns.specs.Due.{choices, with_picks}
-use Rattle.mcs_turns.specs.Turns.{User, Going, ArePicks}
+use Rattle.mcs_turns.specs.Turns.{User, RunState, ArePicks}
 use Rattle.mcs_users.specs.Users.{change_slots}
 use Rattle.mcs_explore_rows.specs.Bytes.{coded}
 use Rattle.mcs_explore_rows.specs.Naming.{Names}
@@ -116,7 +116,7 @@ abbrev pub pick_numbers : Pick → List ℕ
 pick_numbers k = k.user ∷ k.number ∷ []
 
 -- a row for the position of each user
-abbrev pub place_rows : List User → Going → List (List ℕ)
+abbrev pub place_rows : List User → RunState → List (List ℕ)
 place_rows users g = below (λ i. option_numbers position_numbers (slice_get g.places i) ∷ []) (length users)
 
 -- what a core may enter that has these picks, with its stale picks
@@ -124,31 +124,31 @@ abbrev pub choice_list_numbers : List Pick → List Pick → List ℕ
 choice_list_numbers picks stale = list_numbers pick_numbers (with_picks picks stale)
 
 -- a row for what each core may enter, where the cores have these picks
-abbrev pub choice_rows : Going → List (List Pick) → List (List ℕ)
+abbrev pub choice_rows : RunState → List (List Pick) → List (List ℕ)
 choice_rows g picks = below (λ i. option_numbers (list_numbers pick_numbers) (slice_get (choices picks g.stale) i) ∷ []) g.book.boot.cores
 
 -- the rows of a state of users, where the cores have these picks, and numbers of messages are
 -- distinguished or not
-abbrev pub rows_of : Bool → List User → Going → List (List Pick) → List (List ℕ)
+abbrev pub rows_of : Bool → List User → RunState → List (List Pick) → List (List ℕ)
 rows_of numbered users g picks = count_numbers numbered (log_of g.book)
     ∷ (place_rows users g ++ (choice_rows g picks ++ object_rows (change_slots users) numbered (log_of g.book)))
 
 -- the cores of a state have picks, and for all that they have holds a fact
-pub record OfPicks (users : List User) (g : Going) (IsSo : List (List Pick) → Type 0) : Type 0 where
+pub record OfPicks (users : List User) (g : RunState) (IsSo : List (List Pick) → Type 0) : Type 0 where
   pub picks : List (List Pick)
   pub are : ArePicks users g picks
   pub so : (ks : List (List Pick)) → ArePicks users g ks → IsSo ks
 
 -- two states have equal rows
-abbrev pub HaveSameRows : Bool → List User → Going → Going → Type 0
+abbrev pub HaveSameRows : Bool → List User → RunState → RunState → Type 0
 HaveSameRows numbered users g h = OfPicks users g (λ ks. OfPicks users h (λ js. rows_of numbered users g ks ≡ rows_of numbered users h js))
 
 -- the numbers name the rows of a state, among the interned ones
-abbrev pub NameRows : Bool → List (List ℕ) → List User → Going → List ℕ → Type 0
+abbrev pub NameRows : Bool → List (List ℕ) → List User → RunState → List ℕ → Type 0
 NameRows numbered met users g numbers = OfPicks users g (λ ks. Names met numbers (rows_of numbered users g ks))
 
 -- the bytes of a key are those of numbers that name the rows of a state
-pub record IsKey (numbered : Bool) (met : List (List ℕ)) (users : List User) (g : Going) (bytes : List ℕ) : Type 0 where
+pub record IsKey (numbered : Bool) (met : List (List ℕ)) (users : List User) (g : RunState) (bytes : List ℕ) : Type 0 where
   pub numbers : List ℕ
   pub are : bytes ≡ coded numbers
   pub name : NameRows numbered met users g numbers

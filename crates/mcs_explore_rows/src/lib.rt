@@ -7,13 +7,13 @@
 //! ```
 #![tactic(auto)]
 
-mod coding;
+mod codec;
 mod exact;
 mod hashed;
 mod met;
 mod numbers;
 
-pub use coding::{Key, key_of};
+pub use codec::{Key, key_of};
 pub use exact::exact_numbers;
 pub use met::{Numbers, RowInterner};
 pub use numbers::{Row, kind_number, send_number};

@@ -1,14 +1,14 @@
 -- What is drawn of some turns, one after the other.
 use Rattle.std.proofs.Common.{◌≡◌, ◌+◌, ◌⊎◌, ℕ, Bool, true, false, List, Option, Some, None, IfNone, IfSome, IsSome, inl, inr, refl, sym, subst}
 use Rattle.std.specs.Prelude.{slice_get}
-use Rattle.mcs_turns.specs.Turns.{Going, User}
+use Rattle.mcs_turns.specs.Turns.{RunState, User}
 use Rattle.mcs_explore_walk.specs.declared.walk.Turn.{Turn}
 use Rattle.mcs_explore_walk.specs.Walks.{HasNoTurn}
 use Rattle.mcs_explore_walk.proofs.Turning.{HasNoneBelow, none-next}
 use Rattle.mcs_explore_run.specs.Runs.{CanTurn}
 
 -- what is drawn is possible; if nothing is, none of the first n turns are
-pub record IsDrawnBelow (users : List User) (g : Going) (ts : List Turn) (n : ℕ) (o : Option Turn) : Type 0 where
+pub record IsDrawnBelow (users : List User) (g : RunState) (ts : List Turn) (n : ℕ) (o : Option Turn) : Type 0 where
   pub some : IfSome o (CanTurn users g)
   pub none : IfNone o (HasNoneBelow users g ts n)
 
@@ -20,7 +20,7 @@ not-none : (B : Type 0) (o : Option Turn) → IsSome o → IfNone o B
 not-none B None is = absurd cc
 not-none B (Some t) is = tt
 
-module _ (users : List User) (g : Going) (ts : List Turn) (n : ℕ) (t : Turn) (at : slice_get ts n ≡ Some t) (before after : Option Turn) (so_far : IsDrawnBelow users g ts n before) where
+module _ (users : List User) (g : RunState) (ts : List Turn) (n : ℕ) (t : Turn) (at : slice_get ts n ≡ Some t) (before after : Option Turn) (so_far : IsDrawnBelow users g ts n before) where
   -- one more that is not possible
   not-possible : HasNoTurn users g t.core t.pick → after ≡ before → IsDrawnBelow users g ts (n + 1) after
   not-possible cannot same = record {

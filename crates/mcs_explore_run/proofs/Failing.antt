@@ -4,19 +4,19 @@ use Rattle.std.specs.List.{list_all, list_any}
 use Rattle.std.proofs.Common.{refl, ap, sym, ◌∙◌, subst, inl, inr, arith}
 use Rattle.mcs_book.specs.Boots.{Boot}
 use Rattle.mcs_turns.specs.declared.position.Position.{Position}
-use Rattle.mcs_turns.specs.Turns.{User, Going}
+use Rattle.mcs_turns.specs.Turns.{User, RunState}
 use Rattle.mcs_explore_walk.specs.declared.walk.Turn.{Turn}
 use Rattle.mcs_explore_walk.specs.Walks.{last_answer}
 use Rattle.mcs_explore_orders.specs.Shown.{IsShown, Made, Shown}
 use Rattle.mcs_explore_orders.specs.Trails.{Leads}
-use Rattle.mcs_explore_questions.specs.declared.asking.Asked.{Asked}
-use Rattle.mcs_explore_questions.specs.declared.asking.Asked.TheVariants as asked
-use Rattle.mcs_explore_questions.specs.declared.asking.Event.{Event}
+use Rattle.mcs_explore_questions.specs.declared.questions.Asked.{Asked}
+use Rattle.mcs_explore_questions.specs.declared.questions.Asked.TheVariants as asked
+use Rattle.mcs_explore_questions.specs.declared.questions.Event.{Event}
 use Rattle.mcs_explore_script.specs.declared.questions.AskedLine.{AskedLine}
 use Rattle.mcs_explore_script.specs.declared.script.UserScript.{UserScript}
 use Rattle.mcs_explore_script.specs.UserLists.{user_of}
 use Rattle.mcs_explore_report.specs.declared.answers.Witness.{Witness}
-use Rattle.mcs_explore_report.specs.declared.judging.Sighting.{Sighting}
+use Rattle.mcs_explore_report.specs.declared.judgement.Sighting.{Sighting}
 use Rattle.mcs_explore_report.specs.declared.verdicts.Verdict.{Verdict}
 use Rattle.mcs_explore_report.specs.Answers.{IsAnswerOf, IsMailed, IsOwnAnswer, Tables, table_of}
 use Rattle.mcs_explore_report.specs.Endings.{are_idle}
@@ -39,18 +39,18 @@ module _ (s : UserScript) (kinds : List Kind) (tables : Tables) (failed : List (
       let one = some-not (λ (k : Kind). are_idle s.asked.items k.standing) kinds all in
       let end = of.kept.ends.each one.place one.one one.at in
       let run = of.are.states end.number end.sight end.at in
-      record { turns = run.turns; state = end.sight.going; run = run.run; over = run.over end.over; bad = ap (are_idle s.asked.items) end.standing ∙ one.is }
+      record { turns = run.turns; state = end.sight.run_state; run = run.run; over = run.over end.over; bad = ap (are_idle s.asked.items) end.standing ∙ one.is }
 
   end-lacks : (e : Event) (seen : Sighting) → IsWithout kinds e seen → SomeEndLacks s.users s.boot e
   end-lacks e seen it =
       let end = of.kept.ends.each it.index it.kind it.at in
       let run = of.are.states end.number end.sight end.at in
-      record { turns = run.turns; state = end.sight.going; run = run.run; over = run.over end.over; lacks = ap (lacks e) end.standing ∙ it.lacks }
+      record { turns = run.turns; state = end.sight.run_state; run = run.run; over = run.over end.over; lacks = ap (lacks e) end.standing ∙ it.lacks }
 
-  answered : (user number : ℕ) (t : Witness) (m : Made) → last_answer m.going.book ≡ Some m.answer → m.turn ≡ t.turn → IsOwnAnswer m user number t.answer ⊎ IsMailed s.users m.from m.going user number m.turn t.answer
-      → IsAnswered t.turn m.going user number t.answer ⊎ IsMailed s.users m.from m.going user number t.turn t.answer
-  answered user number t m last same (inl own) = inl (subst (λ (u : Turn). IsAnswered u m.going user number t.answer) same (record { user = own.user; number = own.number; answer = last ∙ ap (λ a. Some a) own.answer }))
-  answered user number t m last same (inr mail) = inr (subst (λ (u : Turn). IsMailed s.users m.from m.going user number u t.answer) same mail)
+  answered : (user number : ℕ) (t : Witness) (m : Made) → last_answer m.run_state.book ≡ Some m.answer → m.turn ≡ t.turn → IsOwnAnswer m user number t.answer ⊎ IsMailed s.users m.from m.run_state user number m.turn t.answer
+      → IsAnswered t.turn m.run_state user number t.answer ⊎ IsMailed s.users m.from m.run_state user number t.turn t.answer
+  answered user number t m last same (inl own) = inl (subst (λ (u : Turn). IsAnswered u m.run_state user number t.answer) same (record { user = own.user; number = own.number; answer = last ∙ ap (λ a. Some a) own.answer }))
+  answered user number t m last same (inr mail) = inr (subst (λ (u : Turn). IsMailed s.users m.from m.run_state user number u t.answer) same mail)
 
   -- an answer that is kept came in a run
   said-once : (e : Event) (pattern : List ℕ) (wanted : Bool) (seen : Sighting) → IsFoundIn (answers_of s.users tables e) pattern wanted seen → SomeAnswerIs s.users s.boot e pattern wanted
@@ -71,10 +71,10 @@ module _ (s : UserScript) (kinds : List Kind) (tables : Tables) (failed : List (
             state = run.state;
             run = run.run;
             turn = it.one.turn;
-            going = a.made.going;
-            leads = subst (λ (u : Turn). Leads s.users u run.state a.made.going) a.turn run.turn.leads;
+            run_state = a.made.run_state;
+            leads = subst (λ (u : Turn). Leads s.users u run.state a.made.run_state) a.turn run.turn.leads;
             answer = it.one.answer;
-            is = subst (λ (ps : List Position). IsAnswered it.one.turn a.made.going user (e.number - 1) it.one.answer ⊎ IsMailed s.users ps a.made.going user (e.number - 1) it.one.turn it.one.answer) run.turn.from (answered user (e.number - 1) it.one a.made run.turn.answer a.turn a.is);
+            is = subst (λ (ps : List Position). IsAnswered it.one.turn a.made.run_state user (e.number - 1) it.one.answer ⊎ IsMailed s.users ps a.made.run_state user (e.number - 1) it.one.turn it.one.answer) run.turn.from (answered user (e.number - 1) it.one a.made run.turn.answer a.turn a.is);
             said = it.is;
           }
 
@@ -88,14 +88,14 @@ module _ (s : UserScript) (kinds : List Kind) (tables : Tables) (failed : List (
           at-user user is (table_of tables user (e.number - 1)) refl (sym (ap (λ (ts : List Witness). slice_get ts it.index) same) ∙ it.at)
 
   -- a failure that is kept came in a run
-  failed-by : (q : Asked) (place : ℕ) (turn : Option Turn) (h : Going) → IsShownBy of.shown place turn h → fails s.users q turn h ≡ true → FailsInRun s.users s.boot q
+  failed-by : (q : Asked) (place : ℕ) (turn : Option Turn) (h : RunState) → IsShownBy of.shown place turn h → fails s.users q turn h ≡ true → FailsInRun s.users s.boot q
   failed-by q place None h it lacks =
       let run = of.are.states it.number it.sight it.at in
-      record { turns = run.turns; state = it.sight.going; run = run.run; turn = None; going = h; is = it.going; fails = lacks }
+      record { turns = run.turns; state = it.sight.run_state; run = run.run; turn = None; run_state = h; is = it.run_state; fails = lacks }
   failed-by q place (Some t) h it lacks =
       let run = of.are.turns it.number it.made it.at in
-      let turned = subst (λ (u : Turn). Leads s.users u run.state it.made.going) it.turn run.turn.leads in
-      record { turns = run.turns; state = run.state; run = run.run; turn = Some t; going = h; is = subst (λ (x : Going). Leads s.users t run.state x) it.going turned; fails = lacks }
+      let turned = subst (λ (u : Turn). Leads s.users u run.state it.made.run_state) it.turn run.turn.leads in
+      record { turns = run.turns; state = run.state; run = run.run; turn = Some t; run_state = h; is = subst (λ (x : RunState). Leads s.users t run.state x) it.run_state turned; fails = lacks }
 
   failed-run : (i : ℕ) (q : AskedLine) → slice_get s.asked.items i ≡ Some q → (f : Option Sighting) → failed_at failed i ≡ f → is_some f ≡ true → FailsInRun s.users s.boot q.asked
   failed-run i q at None is some = absurd cc
@@ -105,7 +105,7 @@ module _ (s : UserScript) (kinds : List Kind) (tables : Tables) (failed : List (
       let kept = within-at failed i (omega (arith, within, long)) in
       let same : kept.0 ≡ Some seen = sym (ap (λ (o : Option (Option Sighting)). elim o [ None ↦ None | Some g ↦ g ]) kept.1) ∙ is in
       let it : HasFailed s.users q.asked of.shown seen = of.kept.judged.each i q (Some seen) at (kept.1 ∙ ap (λ (o : Option Sighting). Some o) same) in
-      failed-by q.asked seen.place seen.turn it.going it.is it.fails
+      failed-by q.asked seen.place seen.turn it.run_state it.is it.fails
 
   seen-is : (f : Option Sighting) (v : Verdict) → v ≡ record { holds = is_none f; seen = f } → is_some v.seen ≡ true → is_some f ≡ true
   seen-is f v is some = sym (ap (λ (w : Verdict). is_some w.seen) is) ∙ some

@@ -5,11 +5,11 @@ use Rattle.std.proofs.Common.{refl, ap, sym, ◌∙◌, inl, inr}
 use Rattle.std.proofs.lemmas.List.Folds.{list_any-append}
 use Rattle.mcs_turns.specs.Turns.{User}
 use Rattle.mcs_explore_script.specs.declared.questions.AskedLine.{AskedLine}
-use Rattle.mcs_explore_report.specs.declared.judging.Sighting.{Sighting}
+use Rattle.mcs_explore_report.specs.declared.judgement.Sighting.{Sighting}
 use Rattle.mcs_explore_report.specs.Answers.{Tables}
 use Rattle.mcs_explore_report.specs.Ends.{Kind}
 use Rattle.mcs_explore_report.specs.Verdicts.{failed_at}
-use Rattle.mcs_explore_run.specs.declared.showing.Judged.{Judged}
+use Rattle.mcs_explore_run.specs.declared.evidence.Judged.{Judged}
 use Rattle.mcs_explore_run.specs.Samples.{HasShownFailure, IsShownToFail, any_fails, fails}
 
 or_parts : (a b : Bool) → (a || b) ≡ true → (a ≡ true) ⊎ (b ≡ true)

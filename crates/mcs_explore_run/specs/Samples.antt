@@ -2,39 +2,39 @@
 use Rattle.std.specs.Prelude.{ℕ, ◌≡◌, Bool, true, false, is_some, List, Option, Some, None, slice_get}
 use Rattle.std.specs.List.{list_any}
 use Rattle.mcs_book.specs.Boots.{Boot}
-use Rattle.mcs_turns.specs.Turns.{Going, IsOver, IsRun, User}
-use Rattle.mcs_explore_orders.specs.Shown.{IsTurnFrom, Made, Shown, Sight}
-use Rattle.mcs_explore_questions.specs.declared.asking.Asked.{Asked}
+use Rattle.mcs_turns.specs.Turns.{RunState, IsOver, IsRun, User}
+use Rattle.mcs_explore_orders.specs.Shown.{IsTurnFrom, Made, Shown, SeenState}
+use Rattle.mcs_explore_questions.specs.declared.questions.Asked.{Asked}
 use Rattle.mcs_explore_script.specs.declared.questions.AskedLine.{AskedLine}
 use Rattle.mcs_explore_script.specs.declared.script.UserScript.{UserScript}
 use Rattle.mcs_explore_script.specs.Scripts.{IsScript}
-use Rattle.mcs_explore_report.specs.declared.judging.Sighting.{Sighting}
+use Rattle.mcs_explore_report.specs.declared.judgement.Sighting.{Sighting}
 use Rattle.mcs_explore_report.specs.declared.verdicts.Verdict.{Verdict}
 use Rattle.mcs_explore_report.specs.Answers.{Tables}
 use Rattle.mcs_explore_report.specs.Ends.{Kind}
 use Rattle.mcs_explore_report.specs.Failing.{IsFailing}
 use Rattle.mcs_explore_report.specs.Kept.{IsKept}
 use Rattle.mcs_explore_report.specs.Verdicts.{IsVerdict, failed_at}
-use Rattle.mcs_explore_run.specs.declared.showing.Judged.{Judged}
-use Rattle.mcs_explore_run.specs.declared.showing.Showed.{Showed}
-use Rattle.mcs_explore_run.specs.declared.showing.Showed.TheVariants as showed
+use Rattle.mcs_explore_run.specs.declared.evidence.Judged.{Judged}
+use Rattle.mcs_explore_run.specs.declared.evidence.Showed.{Showed}
+use Rattle.mcs_explore_run.specs.declared.evidence.Showed.TheVariants as showed
 
 -- a state that was shown is that of a run, and is over if it was shown as over
-pub record IsOfRun (users : List User) (boot : Boot) (s : Sight) : Type 0 where
+pub record IsOfRun (users : List User) (boot : Boot) (s : SeenState) : Type 0 where
   pub turns : ℕ
-  pub run : IsRun users boot turns s.going
-  pub over : s.is_over ≡ true → IsOver users s.going
+  pub run : IsRun users boot turns s.run_state
+  pub over : s.is_over ≡ true → IsOver users s.run_state
 
 -- a turn that was shown is one from the state of a run
 pub record IsFromRun (users : List User) (boot : Boot) (m : Made) : Type 0 where
   pub turns : ℕ
-  pub state : Going
+  pub state : RunState
   pub run : IsRun users boot turns state
   pub turn : IsTurnFrom users state m
 
 -- all that was shown is of runs
 pub record AreOfRuns (users : List User) (boot : Boot) (shown : Shown) : Type 0 where
-  pub states : (j : ℕ) (s : Sight) → slice_get shown.states j ≡ Some s → IsOfRun users boot s
+  pub states : (j : ℕ) (s : SeenState) → slice_get shown.states j ≡ Some s → IsOfRun users boot s
   pub turns : (j : ℕ) (m : Made) → slice_get shown.turns j ≡ Some m → IsFromRun users boot m
 
 -- a watch that has seen only states and turns of runs
@@ -48,7 +48,7 @@ abbrev pub SeesRuns : {W : Type 0} → (W → List User → Shown → Type 0) �
 SeesRuns Has old new users boot = HasSeenRuns Has old users boot → HasSeenRuns Has new users boot
 
 -- of each run that leads to this state
-abbrev pub SeesFrom : {W : Type 0} → (W → List User → Shown → Type 0) → W → W → List User → Going → Type 0
+abbrev pub SeesFrom : {W : Type 0} → (W → List User → Shown → Type 0) → W → W → List User → RunState → Type 0
 SeesFrom Has old new users g = (boot : Boot) (n : ℕ) → IsRun users boot n g → SeesRuns Has old new users boot
 
 -- the ends, the answers and the failures of all that was shown, which is of runs

@@ -8,12 +8,12 @@
 //! ```
 #![tactic(auto)]
 
-mod drawing;
-mod running;
-mod sampling;
-mod showing;
-mod telling;
+mod draws;
+mod evidence;
+mod report;
+mod run;
+mod samples;
 
-pub use running::{Drawn, draw_run};
-pub use sampling::{Chances, Sample, draw_runs};
-pub use telling::tell_runs;
+pub use report::tell_runs;
+pub use run::{Drawn, draw_run};
+pub use samples::{Chances, Sample, draw_runs};

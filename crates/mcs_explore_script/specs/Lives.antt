@@ -2,8 +2,8 @@
 use Rattle.std.specs.Prelude.{ℕ, ◌+◌, ◌-◌, ◌++◌, cond, flat_map, length, List, [], ◌∷◌, Option, Some, None, slice_get}
 use Rattle.std.specs.List.{list_any}
 use Rattle.mcs_turns.specs.Turns.{User, is_program}
-use Rattle.mcs_explore_questions.specs.declared.asking.Asked.{Asked}
-use Rattle.mcs_explore_questions.specs.declared.asking.Asked.TheVariants as asked
+use Rattle.mcs_explore_questions.specs.declared.questions.Asked.{Asked}
+use Rattle.mcs_explore_questions.specs.declared.questions.Asked.TheVariants as asked
 use Rattle.mcs_explore_questions.specs.Asking.{is_of_waits}
 use Rattle.mcs_explore_script.specs.declared.lives.Live.{Live}
 use Rattle.mcs_explore_script.specs.declared.questions.AskedLine.{AskedLine}

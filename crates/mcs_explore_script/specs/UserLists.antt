@@ -6,10 +6,10 @@ use Rattle.mcs_types.specs.Ids.{same}
 use Rattle.mcs_text.specs.declared.steps.UserEntry.{UserEntry}
 use Rattle.mcs_turns.specs.Turns.{User}
 use Rattle.mcs_users.specs.Users.{scheduled, straightened, with_again, with_entry}
-use Rattle.mcs_explore_questions.specs.declared.asking.Asked.{Asked}
-use Rattle.mcs_explore_questions.specs.declared.asking.Asked.TheVariants as asked
-use Rattle.mcs_explore_questions.specs.declared.asking.Rule.{Rule}
-use Rattle.mcs_explore_questions.specs.declared.asking.Rule.TheVariants as rule
+use Rattle.mcs_explore_questions.specs.declared.questions.Asked.{Asked}
+use Rattle.mcs_explore_questions.specs.declared.questions.Asked.TheVariants as asked
+use Rattle.mcs_explore_questions.specs.declared.questions.Rule.{Rule}
+use Rattle.mcs_explore_questions.specs.declared.questions.Rule.TheVariants as rule
 use Rattle.mcs_explore_script.specs.declared.questions.AskedLine.{AskedLine}
 
 -- the number of the user of a thread

@@ -3,9 +3,9 @@
 #![tactic(auto)]
 
 mod likeness;
-mod reaching;
+mod reachability;
 mod search;
 
 pub use likeness::{Likeness, every_run, near_run};
-pub use reaching::mark_all_led;
+pub use reachability::mark_all_led;
 pub use search::{Budget, Edge, Found, Search, System, explore};

@@ -20,8 +20,8 @@ use Rattle.mcs_book.specs.Threads.{prio_of}
 use Rattle.mcs_turns.specs.declared.position.Pick.{Pick}
 use Rattle.mcs_book.specs.History.{log_of}
 use Rattle.mcs_turns.specs.declared.position.Position.{Position}
-use Rattle.mcs_turns.specs.Turns.{User, Going, CanGive}
-use Rattle.mcs_explore_walk.specs.declared.walk.Offer.{Offer}
+use Rattle.mcs_turns.specs.Turns.{User, RunState, CanGive}
+use Rattle.mcs_explore_walk.specs.declared.walk.Candidate.{Candidate}
 use Rattle.mcs_turns.proofs.Choices.{same-pick}
 use Rattle.mcs_turns.specs.Due.{none_stale, is_same, stale_after}
 
@@ -100,7 +100,7 @@ one-user users i u v e f = some-same (sym e ∙ f)
     some-same h = search rules
 
 -- the best below the next number, where the user there is known to go after it
-best-next : (users : List User) (g : Going) (core : CoreId) (n : ℕ) (t : ObjId)
+best-next : (users : List User) (g : RunState) (core : CoreId) (n : ℕ) (t : ObjId)
     → ((i : ℕ) (u : User) (p : Position) → i < n → CanGive users g core i u p → GoesBefore (log_of g.book) t u.thread)
     → ((u : User) (p : Position) → CanGive users g core n u p → GoesBefore (log_of g.book) t u.thread)
     → (i : ℕ) (u : User) (p : Position) → i < n + 1 → CanGive users g core i u p → GoesBefore (log_of g.book) t u.thread
@@ -111,7 +111,7 @@ best-next users g core n t below here i u p low can = go (nat_split i n low)
     go (inr h) = here u p (subst (λ k. CanGive users g core k u p) h can)
 
 -- two threads of users that can give an entry in one place are the same
-one-thread : (users : List User) (g : Going) (core : CoreId) (n : ℕ) (k : Pick) (t : ObjId) (u : User) (p : Position) → Gives users g core n k t → CanGive users g core n u p → t ≡ u.thread
+one-thread : (users : List User) (g : RunState) (core : CoreId) (n : ℕ) (k : Pick) (t : ObjId) (u : User) (p : Position) → Gives users g core n k t → CanGive users g core n u p → t ≡ u.thread
 one-thread users g core n k t u p gives can =
     gives.thread ∙ ap (λ (v : User). v.thread) (one-user users n gives.user u gives.can.user can.user)
 
@@ -120,41 +120,41 @@ before-self : (R : Log) (t : ObjId) → GoesBefore R t t
 before-self R t = record { priority = omega arith; serial = λ e. omega arith }
 
 -- the thread of the best so far
-module _ (users : List User) (g : Going) (n : ℕ) (offer : Offer) (k : Pick) (u : User) (is : IsOffer users g n (Some offer)) (best : IsBestBelow users g offer.core n (Some k)) (at : slice_get users k.user ≡ Some u) where
+module _ (users : List User) (g : RunState) (n : ℕ) (candidate : Candidate) (k : Pick) (u : User) (is : IsOffer users g n (Some candidate)) (best : IsBestBelow users g candidate.core n (Some k)) (at : slice_get users k.user ≡ Some u) where
   its-thread : best.0 ≡ u.thread
   its-thread = best.1.thread ∙ ap (λ (v : User). v.thread) (one-user users k.user best.1.user u best.1.can.user at)
 
-  below : (i : ℕ) (v : User) (p : Position) → i < n → CanGive users g offer.core i v p → GoesBefore (log_of g.book) u.thread v.thread
+  below : (i : ℕ) (v : User) (p : Position) → i < n → CanGive users g candidate.core i v p → GoesBefore (log_of g.book) u.thread v.thread
   below i v p low can = subst (λ t. GoesBefore (log_of g.book) t v.thread) its-thread (best.2 i v p low can)
 
   -- the best stays the best where it goes before the next one
-  pub goes_after : GoesBefore (log_of g.book) u.thread offer.thread → IsBestBelow users g offer.core (n + 1) (Some k)
+  pub goes_after : GoesBefore (log_of g.book) u.thread candidate.thread → IsBestBelow users g candidate.core (n + 1) (Some k)
   goes_after goes = (
     u.thread,
-    subst (λ t. Gives users g offer.core k.user k t) its-thread best.1,
-    best-next users g offer.core n u.thread below (λ v p can. subst (λ t. GoesBefore (log_of g.book) u.thread t) (one-thread users g offer.core n offer.pick offer.thread v p is.0 can) goes),
+    subst (λ t. Gives users g candidate.core k.user k t) its-thread best.1,
+    best-next users g candidate.core n u.thread below (λ v p can. subst (λ t. GoesBefore (log_of g.book) u.thread t) (one-thread users g candidate.core n candidate.pick candidate.thread v p is.0 can) goes),
   )
 
   -- the next one is the best where it goes before the best so far
-  pub goes_first : GoesBefore (log_of g.book) offer.thread u.thread → IsBestBelow users g offer.core (n + 1) (Some offer.pick)
+  pub goes_first : GoesBefore (log_of g.book) candidate.thread u.thread → IsBestBelow users g candidate.core (n + 1) (Some candidate.pick)
   goes_first goes = (
-    offer.thread,
-    subst (λ i. Gives users g offer.core i offer.pick offer.thread) (sym (ap (λ (j : Pick). j.user) is.0.number)) is.0,
-    best-next users g offer.core n offer.thread (λ i v p low can. before-on (log_of g.book) offer.thread u.thread v.thread goes (below i v p low can))
-        (λ v p can. subst (λ t. GoesBefore (log_of g.book) offer.thread t) (one-thread users g offer.core n offer.pick offer.thread v p is.0 can) (before-self (log_of g.book) offer.thread)),
+    candidate.thread,
+    subst (λ i. Gives users g candidate.core i candidate.pick candidate.thread) (sym (ap (λ (j : Pick). j.user) is.0.number)) is.0,
+    best-next users g candidate.core n candidate.thread (λ i v p low can. before-on (log_of g.book) candidate.thread u.thread v.thread goes (below i v p low can))
+        (λ v p can. subst (λ t. GoesBefore (log_of g.book) candidate.thread t) (one-thread users g candidate.core n candidate.pick candidate.thread v p is.0 can) (before-self (log_of g.book) candidate.thread)),
   )
 
 -- or if there was none
-pub is_first : (users : List User) (g : Going) (n : ℕ) (offer : Offer) → IsOffer users g n (Some offer) → IsBestBelow users g offer.core n None → IsBestBelow users g offer.core (n + 1) (Some offer.pick)
-is_first users g n offer is none = (
-  offer.thread,
-  subst (λ i. Gives users g offer.core i offer.pick offer.thread) (sym (ap (λ (j : Pick). j.user) is.0.number)) is.0,
-  best-next users g offer.core n offer.thread (λ i v p low can. absurd (none i v p low can))
-      (λ v p can. subst (λ t. GoesBefore (log_of g.book) offer.thread t) (one-thread users g offer.core n offer.pick offer.thread v p is.0 can) (before-self (log_of g.book) offer.thread)),
+pub is_first : (users : List User) (g : RunState) (n : ℕ) (candidate : Candidate) → IsOffer users g n (Some candidate) → IsBestBelow users g candidate.core n None → IsBestBelow users g candidate.core (n + 1) (Some candidate.pick)
+is_first users g n candidate is none = (
+  candidate.thread,
+  subst (λ i. Gives users g candidate.core i candidate.pick candidate.thread) (sym (ap (λ (j : Pick). j.user) is.0.number)) is.0,
+  best-next users g candidate.core n candidate.thread (λ i v p low can. absurd (none i v p low can))
+      (λ v p can. subst (λ t. GoesBefore (log_of g.book) candidate.thread t) (one-thread users g candidate.core n candidate.pick candidate.thread v p is.0 can) (before-self (log_of g.book) candidate.thread)),
 )
 
 -- the best of a core on which the next user can give nothing is the best still
-best-kept : (users : List User) (g : Going) (core : CoreId) (n : ℕ) (o : Option Pick) → ((u : User) (p : Position) → CanGive users g core n u p → ⊥)
+best-kept : (users : List User) (g : RunState) (core : CoreId) (n : ℕ) (o : Option Pick) → ((u : User) (p : Position) → CanGive users g core n u p → ⊥)
     → IsBestBelow users g core n o → IsBestBelow users g core (n + 1) o
 best-kept users g core n None nothing best = λ i u p low can. go i u p can (nat_split i n low)
   where
@@ -165,7 +165,7 @@ best-kept users g core n (Some k) nothing best =
     (best.0, best.1, best-next users g core n best.0 best.2 (λ u p can. absurd (nothing u p can)))
 
 -- all of them, where the next user can give nothing
-pub all_kept : (users : List User) (g : Going) (n : ℕ) (picks : List (Option Pick)) → IsOffer users g n None → AreBestBelow users g n picks → AreBestBelow users g (n + 1) picks
+pub all_kept : (users : List User) (g : RunState) (n : ℕ) (picks : List (Option Pick)) → IsOffer users g n None → AreBestBelow users g n picks → AreBestBelow users g (n + 1) picks
 all_kept users g n picks none best = record {
   each = λ core k at. best-kept users g core n k (λ u p can. none core u p can) (best.each core k at);
 }
@@ -186,11 +186,11 @@ set-at (z ∷ xs) (suc i) (suc j) x y at = go (set-at xs i j x y at)
         pred e = omega (arith, e)
 
 -- and where it gives the best of its core
-pub all_noted : (users : List User) (g : Going) (n : ℕ) (picks : List (Option Pick)) (offer : Offer) (k : Pick) → IsOffer users g n (Some offer) → AreBestBelow users g n picks
-    → IsBestBelow users g offer.core (n + 1) (Some k) → AreBestBelow users g (n + 1) (set picks offer.core.0 (Some k))
-all_noted users g n picks offer k is best new = record { each = λ core j at. go core j (set-at picks offer.core.0 core.0 (Some k) j at) }
+pub all_noted : (users : List User) (g : RunState) (n : ℕ) (picks : List (Option Pick)) (candidate : Candidate) (k : Pick) → IsOffer users g n (Some candidate) → AreBestBelow users g n picks
+    → IsBestBelow users g candidate.core (n + 1) (Some k) → AreBestBelow users g (n + 1) (set picks candidate.core.0 (Some k))
+all_noted users g n picks candidate k is best new = record { each = λ core j at. go core j (set-at picks candidate.core.0 core.0 (Some k) j at) }
   where
-    go : (core : CoreId) (j : Option Pick) → ((offer.core.0 ≡ core.0) × (Some k ≡ j)) ⊎ (((offer.core.0 ≡ core.0) → ⊥) × (slice_get picks core.0 ≡ Some j)) → IsBestBelow users g core (n + 1) j
+    go : (core : CoreId) (j : Option Pick) → ((candidate.core.0 ≡ core.0) × (Some k ≡ j)) ⊎ (((candidate.core.0 ≡ core.0) → ⊥) × (slice_get picks core.0 ≡ Some j)) → IsBestBelow users g core (n + 1) j
     go core j (inl h) = subst (λ o. IsBestBelow users g core (n + 1) o) h.1 (subst (λ (m : ℕ). IsBestBelow users g (record { 0 = m }) (n + 1) (Some k)) h.0 new)
     go core j (inr h) = best-kept users g core n j (λ u p can. h.0 (ap (λ (c : CoreId). c.0) (sym (is.1 core u p can)))) (best.each core j h.1)
 
@@ -201,13 +201,13 @@ in-list (y ∷ xs) zero x at = omega arith
 in-list (y ∷ xs) (suc i) x at = let below = in-list xs i x at in omega (arith, below)
 
 -- or where its core is none of these
-pub all_beyond : (users : List User) (g : Going) (n : ℕ) (picks : List (Option Pick)) (offer : Offer) → IsOffer users g n (Some offer) → length picks ≤ offer.core.0 → AreBestBelow users g n picks → AreBestBelow users g (n + 1) picks
-all_beyond users g n picks offer is far best = record { each = λ core k at. best-kept users g core n k (other core k at) (best.each core k at) }
+pub all_beyond : (users : List User) (g : RunState) (n : ℕ) (picks : List (Option Pick)) (candidate : Candidate) → IsOffer users g n (Some candidate) → length picks ≤ candidate.core.0 → AreBestBelow users g n picks → AreBestBelow users g (n + 1) picks
+all_beyond users g n picks candidate is far best = record { each = λ core k at. best-kept users g core n k (other core k at) (best.each core k at) }
   where
     other : (core : CoreId) (k : Option Pick) → slice_get picks core.0 ≡ Some k → (u : User) (p : Position) → CanGive users g core n u p → ⊥
     other core k at u p can =
         let low = in-list picks core.0 k at in
-        let same : core.0 ≡ offer.core.0 = ap (λ (c : CoreId). c.0) (is.1 core u p can) in
+        let same : core.0 ≡ candidate.core.0 = ap (λ (c : CoreId). c.0) (is.1 core u p can) in
         omega (arith, low, far, same)
 
 -- no pick is the best of no user
@@ -216,13 +216,13 @@ none-of zero i k at = absurd cc
 none-of (suc n) zero k at = cc
 none-of (suc n) (suc i) k at = none-of n i k at
 
-pub none_best : (users : List User) (g : Going) (n : ℕ) (picks : List (Option Pick)) → picks ≡ replicate n None → AreBestBelow users g 0 picks
+pub none_best : (users : List User) (g : RunState) (n : ℕ) (picks : List (Option Pick)) → picks ≡ replicate n None → AreBestBelow users g 0 picks
 none_best users g n picks are = record {
   each = λ core k at. subst (λ o. IsBestBelow users g core 0 o) (sym (none-of n core.0 k (subst (λ ks. slice_get ks core.0 ≡ Some k) are at))) (λ i u p low can. omega (arith, low));
 }
 
 -- the best of all users is the pick
-best-pick : (users : List User) (g : Going) (core : CoreId) (n : ℕ) (o : Option Pick) → length users ≤ n → IsBestBelow users g core n o → IsBestOf users g core o
+best-pick : (users : List User) (g : RunState) (core : CoreId) (n : ℕ) (o : Option Pick) → length users ≤ n → IsBestBelow users g core n o → IsBestOf users g core o
 best-pick users g core n None all best = λ i u p can. best i u p (let low = in-list users i u can.user in omega (arith, low, all)) can
 best-pick users g core n (Some k) all best = record {
   user = best.1.user;
@@ -232,7 +232,7 @@ best-pick users g core n (Some k) all best = record {
   best = λ i v q can. subst (λ t. GoesBefore (log_of g.book) t v.thread) best.1.thread (best.2 i v q (let low = in-list users i v can.user in omega (arith, low, all)) can);
 }
 
-pub best_picks : (users : List User) (g : Going) (n : ℕ) (picks : List (Option Pick)) → length users ≤ n → length picks ≡ g.book.boot.cores → AreBestBelow users g n picks → AreBest users g picks
+pub best_picks : (users : List User) (g : RunState) (n : ℕ) (picks : List (Option Pick)) → length users ≤ n → length picks ≡ g.book.boot.cores → AreBestBelow users g n picks → AreBest users g picks
 best_picks users g n picks all long best = record {
   cores = long;
   each = λ core k at. best-pick users g core n k all (best.each core k at);

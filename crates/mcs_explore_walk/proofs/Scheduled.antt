@@ -22,13 +22,13 @@ use Rattle.mcs_turns.specs.declared.position.Position.{Position}
 use Rattle.mcs_turns.specs.declared.position.Schedule.{Schedule}
 use Rattle.mcs_turns.specs.declared.position.Schedule.TheVariants as schedule
 use Rattle.mcs_turns.specs.Due.{is_same}
-use Rattle.mcs_turns.specs.Turns.{User, Going, AreApart, AreAscending, ArePicks, ArePicksOf, CanBePicked, CanGive, MayPrecede, due}
+use Rattle.mcs_turns.specs.Turns.{User, RunState, AreApart, AreAscending, ArePicks, ArePicksOf, CanBePicked, CanGive, MayPrecede, due}
 use Rattle.mcs_turns.proofs.Among.{none-in, first-in, one-in}
 use Rattle.mcs_turns.proofs.Choices.{same-pick}
 use Rattle.mcs_turns.proofs.OneTurn.{one-at}
 use Rattle.mcs_users.specs.Users.{is_serial}
 use Rattle.mcs_explore_walk.specs.Walks.{AreBest, Gives, IsBest, IsBestOf, IsOffer, best_at}
-use Rattle.mcs_explore_walk.specs.declared.walk.Offer.{Offer}
+use Rattle.mcs_explore_walk.specs.declared.walk.Candidate.{Candidate}
 use Rattle.mcs_explore_walk.proofs.Picking.{nat_split, same-itself}
 
 -- threads that may enter, and each of which goes before the other, are one
@@ -44,7 +44,7 @@ one-thread R core t u enters other before after =
     let kinds = (enters-made R core t enters).0 ∙ sym (enters-made R core u other).0 in
     λ i. record { kind = kinds i; serial = serials i }
 
-module _ (users : List User) (g : Going) (core : CoreId) where
+module _ (users : List User) (g : RunState) (core : CoreId) where
   -- the due entries of one user are one
   one-due : (k j : Pick) → k.user ≡ j.user → (u v : User) (p q : Position) → CanGive users g core k.user u p → k.number ≡ due (log_of g.book) u p
       → CanGive users g core j.user v q → j.number ≡ due (log_of g.book) v q → k ≡ j
@@ -131,10 +131,10 @@ module _ (users : List User) (g : Going) (core : CoreId) where
   pub no-user-picked : (i : ℕ) → slice_get users i ≡ None → (k : Pick) → k.user ≡ i → CanBePicked users g core k → ⊥
   no-user-picked i none k e can = let wrong : None ≡ Some can.user = sym none ∙ subst (λ n. slice_get users n ≡ Some can.user) e can.can.user in absurd cc
 
-  pub no-offer-picked : (i : ℕ) → IsOffer users g i None → (k : Pick) → k.user ≡ i → CanBePicked users g core k → ⊥
-  no-offer-picked i none k e can = none core can.user can.place (subst (λ n. CanGive users g core n can.user can.place) e can.can)
+  pub no-candidate-picked : (i : ℕ) → IsOffer users g i None → (k : Pick) → k.user ≡ i → CanBePicked users g core k → ⊥
+  no-candidate-picked i none k e can = none core can.user can.place (subst (λ n. CanGive users g core n can.user can.place) e can.can)
 
-  pub elsewhere-picked : (i : ℕ) (o : Offer) → IsOffer users g i (Some o) → (core.0 ≡ o.core.0 → ⊥) → (k : Pick) → k.user ≡ i → CanBePicked users g core k → ⊥
+  pub elsewhere-picked : (i : ℕ) (o : Candidate) → IsOffer users g i (Some o) → (core.0 ≡ o.core.0 → ⊥) → (k : Pick) → k.user ≡ i → CanBePicked users g core k → ⊥
   elsewhere-picked i o is other k e can = other (ap (λ (c : CoreId). c.0) (is.1 core can.user can.place (subst (λ n. CanGive users g core n can.user can.place) e can.can)))
 
   -- all that a core may pick of the first n users
@@ -238,14 +238,14 @@ at-push (z ∷ xs) (suc i) x y at = go (at-push xs i x y at)
     go (inr h) = inr (ap (λ n. suc n) h.0, h.1)
 
 -- what the first n cores may pick
-pub record ArePicksBelow (users : List User) (g : Going) (n : ℕ) (picks : List (List Pick)) : Type 0 where
+pub record ArePicksBelow (users : List User) (g : RunState) (n : ℕ) (picks : List (List Pick)) : Type 0 where
   pub long : length picks ≡ n
   pub each : (core : CoreId) (ks : List Pick) → slice_get picks core.0 ≡ Some ks → ArePicksOf users g core ks
 
-pub picks-first : (users : List User) (g : Going) → ArePicksBelow users g 0 []
+pub picks-first : (users : List User) (g : RunState) → ArePicksBelow users g 0 []
 picks-first users g = record { long = refl; each = λ core ks at. absurd cc }
 
-pub picks-next : (users : List User) (g : Going) (n : ℕ) (picks : List (List Pick)) (core : CoreId) (ks : List Pick) → core.0 ≡ n → ArePicksOf users g core ks
+pub picks-next : (users : List User) (g : RunState) (n : ℕ) (picks : List (List Pick)) (core : CoreId) (ks : List Pick) → core.0 ≡ n → ArePicksOf users g core ks
     → ArePicksBelow users g n picks → ArePicksBelow users g (n + 1) (picks ++ ks ∷ [])
 picks-next users g n picks core ks e are before = record {
   long = length_push picks ks ∙ ap (λ m. m + 1) before.long;
@@ -258,11 +258,11 @@ picks-next users g n picks core ks e are before = record {
         let core-is : core.0 ≡ c.0 = e ∙ sym before.long ∙ sym h.0 in
         subst (λ (m : ℕ). ArePicksOf users g (record { 0 = m }) js) core-is (subst (λ xs. ArePicksOf users g core xs) h.1 are)
 
-pub picks-all : (users : List User) (g : Going) (n : ℕ) (picks : List (List Pick)) → n ≡ g.book.boot.cores → ArePicksBelow users g n picks → ArePicks users g picks
+pub picks-all : (users : List User) (g : RunState) (n : ℕ) (picks : List (List Pick)) → n ≡ g.book.boot.cores → ArePicksBelow users g n picks → ArePicks users g picks
 picks-all users g n picks e are = record { cores = are.long ∙ e; each = are.each }
 
 -- the best of a core that is there
-pub best-there : (users : List User) (g : Going) (best : List (Option Pick)) (core : CoreId) → core.0 < length best → AreBest users g best → IsBestOf users g core (best_at best core.0)
+pub best-there : (users : List User) (g : RunState) (best : List (Option Pick)) (core : CoreId) → core.0 < length best → AreBest users g best → IsBestOf users g core (best_at best core.0)
 best-there users g best core low are = go (slice_get best core.0) refl (within best core.0 low)
   where
     within : (xs : List (Option Pick)) (n : ℕ) → n < length xs → (x : Option Pick) × (slice_get xs n ≡ Some x)

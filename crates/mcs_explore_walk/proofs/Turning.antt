@@ -15,7 +15,7 @@ use Rattle.mcs_book.specs.Statuses.{may_enter}
 use Rattle.mcs_book.proofs.Books.KnownCores.{legal-cores}
 use Rattle.mcs_turns.specs.declared.position.Pick.{Pick}
 use Rattle.mcs_turns.specs.Due.{is_same, picks_at}
-use Rattle.mcs_turns.specs.Turns.{User, Going, ArePicks, IsOver, IsStale, IsTurn, entered, given, outcome}
+use Rattle.mcs_turns.specs.Turns.{User, RunState, ArePicks, IsOver, IsStale, IsTurn, entered, given, outcome}
 use Rattle.mcs_turns.proofs.OneTurn.{one-at, one-picks}
 use Rattle.mcs_explore_walk.specs.declared.walk.Turn.{Turn}
 use Rattle.mcs_explore_walk.specs.Walks.{IsEntrant, IsPicked, HasEachTurn, ArePicked, HasNoTurn, is_other, stale_turns, step_of, turn_of, turns_below, turns_of, turns_on}
@@ -95,26 +95,26 @@ from-turns core now js t c = go (Contains-append_cases (map (turn_of core) now) 
     go (inl d) = let h = from-now core now t d in (h.0, inl h.1)
     go (inr d) = let h = from-stale core now js t d in (h.0, inr h.1)
 
-stale-there : (g : Going) (core : CoreId) (k : Pick) → Contains (unwrap_or (slice_get g.stale core.0) []) k → IsStale g core k
+stale-there : (g : RunState) (core : CoreId) (k : Pick) → Contains (unwrap_or (slice_get g.stale core.0) []) k → IsStale g core k
 stale-there g core k c = go (slice_get g.stale core.0) refl c
   where
     go : (o : Option (List Pick)) → slice_get g.stale core.0 ≡ o → Contains (unwrap_or o []) k → IsStale g core k
     go None e d = absurd (none-in k d)
     go (Some js) e d = record { picks = js; stale = e; among = d }
 
-in-core : (g : Going) (picks : List (List Pick)) (core : CoreId) (k : Pick) → IsPicked g picks core k → Contains (turns_on g picks core.0) (turn_of core k)
+in-core : (g : RunState) (picks : List (List Pick)) (core : CoreId) (k : Pick) → IsPicked g picks core k → Contains (turns_on g picks core.0) (turn_of core k)
 in-core g picks core k (inl c) = in-turns core (picks_at picks core.0) (picks_at g.stale core.0) k (inl c)
 in-core g picks core k (inr s) =
     in-turns core (picks_at picks core.0) (picks_at g.stale core.0) k (inr (subst (λ o. Contains (unwrap_or o []) k) (sym s.stale) s.among))
 
-from-core : (g : Going) (picks : List (List Pick)) (i : ℕ) (t : Turn) → Contains (turns_on g picks i) t → IsPicked g picks t.core t.pick
+from-core : (g : RunState) (picks : List (List Pick)) (i : ℕ) (t : Turn) → Contains (turns_on g picks i) t → IsPicked g picks t.core t.pick
 from-core g picks i t c = go (from-turns (record { 0 = i }) (picks_at picks i) (picks_at g.stale i) t c)
   where
     go : (record { 0 = i } ≡ t.core) × (Contains (picks_at picks i) t.pick ⊎ Contains (picks_at g.stale i) t.pick) → IsPicked g picks t.core t.pick
     go (e, inl h) = subst (λ (core : CoreId). IsPicked g picks core t.pick) e (inl h)
     go (e, inr h) = subst (λ (core : CoreId). IsPicked g picks core t.pick) e (inr (stale-there g (record { 0 = i }) t.pick h))
 
-in-below : (g : Going) (picks : List (List Pick)) (n : ℕ) (core : CoreId) (k : Pick) → core.0 < n → IsPicked g picks core k → Contains (turns_below g picks n) (turn_of core k)
+in-below : (g : RunState) (picks : List (List Pick)) (n : ℕ) (core : CoreId) (k : Pick) → core.0 < n → IsPicked g picks core k → Contains (turns_below g picks n) (turn_of core k)
 in-below g picks zero core k low h = absurd (omega (arith, low))
 in-below g picks (suc n) core k low h = go (λ less. in-below g picks n core k less h) (nat_split core.0 n (omega (arith, low)))
   where
@@ -122,7 +122,7 @@ in-below g picks (suc n) core k low h = go (λ less. in-below g picks n core k l
     go rest (inl less) = Contains-append_left (turns_below g picks n) (turns_on g picks n) (turn_of core k) (rest less)
     go rest (inr e) = Contains-append_right (turns_below g picks n) (turns_on g picks n) (turn_of core k) (subst (λ i. Contains (turns_on g picks i) (turn_of core k)) e (in-core g picks core k h))
 
-pub from-below : (g : Going) (picks : List (List Pick)) (n : ℕ) → ArePicked g picks (turns_below g picks n)
+pub from-below : (g : RunState) (picks : List (List Pick)) (n : ℕ) → ArePicked g picks (turns_below g picks n)
 from-below g picks zero = λ t c. absurd (none-in t c)
 from-below g picks (suc n) = λ t c. go t (from-below g picks n t) (Contains-append_cases (turns_below g picks n) (turns_on g picks n) t c)
   where
@@ -143,30 +143,30 @@ core-below b core t legal enters =
 
 -- a turn that the rule has enters what its core picks or picked before, by the one list of picks
 -- that there is
-pub turn-picked : (users : List User) (g h : Going) (picks : List (List Pick)) (core : CoreId) (k : Pick) → ArePicks users g picks → IsTurn users core k g h → IsPicked g picks core k
+pub turn-picked : (users : List User) (g h : RunState) (picks : List (List Pick)) (core : CoreId) (k : Pick) → ArePicks users g picks → IsTurn users core k g h → IsPicked g picks core k
 turn-picked users g h picks core k are turn = go turn.picked
   where
     go : Contains (picks_at turn.picks core.0) k ⊎ IsStale g core k → IsPicked g picks core k
     go (inl c) = inl (subst (λ ks. Contains (picks_at ks core.0) k) (one-picks users g turn.picks picks turn.are_picks are) c)
     go (inr s) = inr s
 
-pub each-below : (users : List User) (g : Going) (picks : List (List Pick)) → IsLegal g.book → ArePicks users g picks → HasEachTurn users g (turns_below g picks g.book.boot.cores)
+pub each-below : (users : List User) (g : RunState) (picks : List (List Pick)) → IsLegal g.book → ArePicks users g picks → HasEachTurn users g (turns_below g picks g.book.boot.cores)
 each-below users g picks legal are = λ core k h turn.
     in-below g picks g.book.boot.cores core k (core-below g.book core turn.user.thread legal turn.enters) (turn-picked users g h picks core k are turn)
 
-pub no-user : (users : List User) (g : Going) (core : CoreId) (k : Pick) → slice_get users k.user ≡ None → HasNoTurn users g core k
+pub no-user : (users : List User) (g : RunState) (core : CoreId) (k : Pick) → slice_get users k.user ≡ None → HasNoTurn users g core k
 no-user users g core k none = λ h t. let wrong : None ≡ Some t.user = sym none ∙ t.is_user in absurd cc
 
-pub no-entry : (users : List User) (g : Going) (core : CoreId) (k : Pick) (u : User) → slice_get users k.user ≡ Some u → slice_get u.entries k.number ≡ None → HasNoTurn users g core k
+pub no-entry : (users : List User) (g : RunState) (core : CoreId) (k : Pick) (u : User) → slice_get users k.user ≡ Some u → slice_get u.entries k.number ≡ None → HasNoTurn users g core k
 no-entry users g core k u at none = λ h t.
     let user : t.user ≡ u = one-at users k.user t.user u t.is_user at in
     let wrong : None ≡ Some t.entry = sym none ∙ subst (λ (v : User). slice_get v.entries k.number ≡ Some t.entry) user t.is_entry in
     absurd cc
 
-pub not-picked : (users : List User) (g : Going) (picks : List (List Pick)) (core : CoreId) (k : Pick) → ArePicks users g picks → (IsPicked g picks core k → ⊥) → HasNoTurn users g core k
+pub not-picked : (users : List User) (g : RunState) (picks : List (List Pick)) (core : CoreId) (k : Pick) → ArePicks users g picks → (IsPicked g picks core k → ⊥) → HasNoTurn users g core k
 not-picked users g picks core k are other = λ h t. other (turn-picked users g h picks core k are t)
 
-pub not-entering : (users : List User) (g : Going) (core : CoreId) (k : Pick) (u : User) → slice_get users k.user ≡ Some u → may_enter (log_of g.book) core u.thread ≡ false → HasNoTurn users g core k
+pub not-entering : (users : List User) (g : RunState) (core : CoreId) (k : Pick) (u : User) → slice_get users k.user ≡ Some u → may_enter (log_of g.book) core u.thread ≡ false → HasNoTurn users g core k
 not-entering users g core k u at turned = λ h t.
     let user : t.user ≡ u = one-at users k.user t.user u t.is_user at in
     let wrong : true ≡ false = sym t.enters ∙ ap (λ (v : User). may_enter (log_of g.book) core v.thread) user ∙ turned in
@@ -188,12 +188,12 @@ any-same k (j ∷ js) c = go (any-same k js) (split-in j js k c)
 pub not-among : (k : Pick) (js : List Pick) → list_any (is_same k) js ≡ false → Contains js k → ⊥
 not-among k js none c = let wrong : true ≡ false = sym (any-same k js c) ∙ none in absurd cc
 
-pub not-stale : (g : Going) (core : CoreId) (k : Pick) (js : List Pick) → slice_get g.stale core.0 ≡ Some js → list_any (is_same k) js ≡ false → IsStale g core k → ⊥
+pub not-stale : (g : RunState) (core : CoreId) (k : Pick) (js : List Pick) → slice_get g.stale core.0 ≡ Some js → list_any (is_same k) js ≡ false → IsStale g core k → ⊥
 not-stale g core k js at none s =
     let picks : s.picks ≡ js = one-at g.stale core.0 s.picks js s.stale at in
     not-among k js none (subst (λ ks. Contains ks k) picks s.among)
 
-pub none-stale : (g : Going) (core : CoreId) (k : Pick) → slice_get g.stale core.0 ≡ None → IsStale g core k → ⊥
+pub none-stale : (g : RunState) (core : CoreId) (k : Pick) → slice_get g.stale core.0 ≡ None → IsStale g core k → ⊥
 none-stale g core k none s = let wrong : None ≡ Some s.picks = sym none ∙ s.stale in absurd cc
 
 -- an entry that a list has is within it
@@ -216,13 +216,13 @@ index-of (u ∷ us) t c = go (index-of us t) (split-in u us t c)
     go rest (inr d) = let r = rest d in (suc r.0, r.1)
 
 -- the rule has none of the first n turns
-abbrev pub HasNoneBelow : List User → Going → List Turn → ℕ → Type 0
+abbrev pub HasNoneBelow : List User → RunState → List Turn → ℕ → Type 0
 HasNoneBelow users g ts n = (i : ℕ) (t : Turn) → i < n → slice_get ts i ≡ Some t → HasNoTurn users g t.core t.pick
 
-pub none-first : (users : List User) (g : Going) (ts : List Turn) → HasNoneBelow users g ts 0
+pub none-first : (users : List User) (g : RunState) (ts : List Turn) → HasNoneBelow users g ts 0
 none-first users g ts i t lt = absurd (omega (arith, lt))
 
-pub none-next : (users : List User) (g : Going) (ts : List Turn) (n : ℕ) (t : Turn) → slice_get ts n ≡ Some t → HasNoTurn users g t.core t.pick → HasNoneBelow users g ts n → HasNoneBelow users g ts (n + 1)
+pub none-next : (users : List User) (g : RunState) (ts : List Turn) (n : ℕ) (t : Turn) → slice_get ts n ≡ Some t → HasNoTurn users g t.core t.pick → HasNoneBelow users g ts n → HasNoneBelow users g ts (n + 1)
 none-next users g ts n t at none before i u lt h = go (nat_split i n (omega (arith, lt)))
   where
     go : (i < n) ⊎ (i ≡ n) → HasNoTurn users g u.core u.pick
@@ -230,15 +230,15 @@ none-next users g ts n t at none before i u lt h = go (nat_split i n (omega (ari
     go (inr e) = let same : t ≡ u = one-at ts n t u at (ap (λ m. slice_get ts m) (sym e) ∙ h) in subst (λ (v : Turn). HasNoTurn users g v.core v.pick) same none
 
 -- where it has none of all, no turn is possible
-pub none-over : (users : List User) (g : Going) (ts : List Turn) (n : ℕ) → HasEachTurn users g ts → length ts ≤ n → HasNoneBelow users g ts n → IsOver users g
+pub none-over : (users : List User) (g : RunState) (ts : List Turn) (n : ℕ) → HasEachTurn users g ts → length ts ≤ n → HasNoneBelow users g ts n → IsOver users g
 none-over users g ts n each long none = λ h f.
     let i = index-of ts (turn_of f.core f.pick) (each f.core f.pick h f.turn) in
     let within = slice_get_within ts i.0 (turn_of f.core f.pick) i.1 in
     none i.0 (turn_of f.core f.pick) (omega (arith, within, long)) i.1 h f.turn
 
 -- an entry that the rule lets in is a turn
-pub some-turn : {X : Type 0} (users : List User) (g : Going) (picks : List (List Pick)) (t : Turn) (user : X → User) (entry : X → Entry) (o : Option X) → ArePicks users g picks
-    → IfSome o (λ x. IsEntrant users g picks t (user x) (entry x)) → is_some o ≡ true → (h : Going) × IsTurn users t.core t.pick g h
+pub some-turn : {X : Type 0} (users : List User) (g : RunState) (picks : List (List Pick)) (t : Turn) (user : X → User) (entry : X → Entry) (o : Option X) → ArePicks users g picks
+    → IfSome o (λ x. IsEntrant users g picks t (user x) (entry x)) → is_some o ≡ true → (h : RunState) × IsTurn users t.core t.pick g h
 some-turn users g picks t user entry (Some x) are is there = (
   entered users picks (user x) (step_of t.core (user x) (given g (user x) t.pick (entry x))) t.pick g,
   record {
@@ -256,6 +256,6 @@ some-turn users g picks t user entry (Some x) are is there = (
 some-turn users g picks t user entry None are is there = absurd cc
 
 -- and without one there is no turn
-pub none-turn : {X : Type 0} (users : List User) (g : Going) (t : Turn) (o : Option X) → IfNone o (HasNoTurn users g t.core t.pick) → is_some o ≡ false → HasNoTurn users g t.core t.pick
+pub none-turn : {X : Type 0} (users : List User) (g : RunState) (t : Turn) (o : Option X) → IfNone o (HasNoTurn users g t.core t.pick) → is_some o ≡ false → HasNoTurn users g t.core t.pick
 none-turn users g t None none empty = none
 none-turn users g t (Some x) none empty = absurd cc

@@ -13,10 +13,10 @@ use Rattle.mcs_book.specs.Picking.{GoesBefore}
 use Rattle.mcs_turns.specs.declared.position.Position.{Position}
 use Rattle.mcs_turns.specs.declared.position.Pick.{Pick}
 use Rattle.mcs_turns.specs.Due.{is_same, picks_at, with_picks, without_user}
-use Rattle.mcs_turns.specs.Turns.{User, Going, CanGive, IsStale, IsTurn, due}
+use Rattle.mcs_turns.specs.Turns.{User, RunState, CanGive, IsStale, IsTurn, due}
 use Rattle.mcs_kernel.specs.declared.fault.EnterFault.{EnterFault}
 use Rattle.mcs_kernel.specs.declared.fault.EnterFault.TheVariants.{BookFull, OutOfMemory}
-use Rattle.mcs_explore_walk.specs.declared.walk.Offer.{Offer}
+use Rattle.mcs_explore_walk.specs.declared.walk.Candidate.{Candidate}
 use Rattle.mcs_explore_walk.specs.declared.walk.Turn.{Turn}
 
 -- there is a core on which the thread may enter
@@ -25,7 +25,7 @@ pub record EntersSomewhere (R : Log) (t : ObjId) : Type 0 where
   pub enters : may_enter R core t ≡ true
 
 -- the user in a place can give this entry on the core, and has this thread
-pub record Gives (users : List User) (g : Going) (core : CoreId) (i : ℕ) (k : Pick) (t : ObjId) : Type 0 where
+pub record Gives (users : List User) (g : RunState) (core : CoreId) (i : ℕ) (k : Pick) (t : ObjId) : Type 0 where
   pub user : User
   pub place : Position
   pub can : CanGive users g core i user place
@@ -38,24 +38,24 @@ IsEntryCore R t None = (core : CoreId) → may_enter R core t ≡ true → ⊥
 IsEntryCore R t (Some c) = (may_enter R c t ≡ true) × ((core : CoreId) → may_enter R core t ≡ true → core ≡ c)
 
 -- what the user in a place can give, on one core
-abbrev pub IsOffer : List User → Going → ℕ → Option Offer → Type 0
+abbrev pub IsOffer : List User → RunState → ℕ → Option Candidate → Type 0
 IsOffer users g i None = (core : CoreId) (u : User) (p : Position) → CanGive users g core i u p → ⊥
 IsOffer users g i (Some o) = Gives users g o.core i o.pick o.thread
     × ((core : CoreId) (u : User) (p : Position) → CanGive users g core i u p → core ≡ o.core)
 
 -- the best that those below n can give on a core
-abbrev pub IsBestBelow : List User → Going → CoreId → ℕ → Option Pick → Type 0
+abbrev pub IsBestBelow : List User → RunState → CoreId → ℕ → Option Pick → Type 0
 IsBestBelow users g core n None = (i : ℕ) (u : User) (p : Position) → i < n → CanGive users g core i u p → ⊥
 IsBestBelow users g core n (Some k) = (t : ObjId) × Gives users g core k.user k t
     × ((i : ℕ) (u : User) (p : Position) → i < n → CanGive users g core i u p → GoesBefore (log_of g.book) t u.thread)
 
 -- for each core the best that the users below n can give there
-pub record AreBestBelow (users : List User) (g : Going) (n : ℕ) (picks : List (Option Pick)) : Type 0 where
+pub record AreBestBelow (users : List User) (g : RunState) (n : ℕ) (picks : List (Option Pick)) : Type 0 where
   pub each : (core : CoreId) (k : Option Pick) → slice_get picks core.0 ≡ Some k → IsBestBelow users g core n k
 
 -- a pick is the due entry of a user that can give one, and whose thread precedes those of all
 -- others that can
-pub record IsBest (users : List User) (g : Going) (core : CoreId) (k : Pick) : Type 0 where
+pub record IsBest (users : List User) (g : RunState) (core : CoreId) (k : Pick) : Type 0 where
   pub user : User
   pub place : Position
   pub can : CanGive users g core k.user user place
@@ -63,12 +63,12 @@ pub record IsBest (users : List User) (g : Going) (core : CoreId) (k : Pick) : T
   pub best : (i : ℕ) (v : User) (q : Position) → CanGive users g core i v q → GoesBefore (log_of g.book) user.thread v.thread
 
 -- the best of a core; none where no thread can give an entry there
-abbrev pub IsBestOf : List User → Going → CoreId → Option Pick → Type 0
+abbrev pub IsBestOf : List User → RunState → CoreId → Option Pick → Type 0
 IsBestOf users g core None = (i : ℕ) (u : User) (p : Position) → CanGive users g core i u p → ⊥
 IsBestOf users g core (Some k) = IsBest users g core k
 
 -- the best of each of all cores
-pub record AreBest (users : List User) (g : Going) (best : List (Option Pick)) : Type 0 where
+pub record AreBest (users : List User) (g : RunState) (best : List (Option Pick)) : Type 0 where
   pub cores : length best ≡ g.book.boot.cores
   pub each : (core : CoreId) (k : Option Pick) → slice_get best core.0 ≡ Some k → IsBestOf users g core k
 
@@ -96,7 +96,7 @@ abbrev pub left_stale : ℕ → ℕ → List (List Pick) → ℕ → List Pick �
 left_stale core user picks i stale = cond (i == core) [] (without_user user (with_picks (picks_at picks i) stale))
 
 -- an entry is among what a core picks, or picked before
-abbrev pub IsPicked : Going → List (List Pick) → CoreId → Pick → Type 0
+abbrev pub IsPicked : RunState → List (List Pick) → CoreId → Pick → Type 0
 IsPicked g picks core k = Contains (picks_at picks core.0) k ⊎ IsStale g core k
 
 -- an entry of a user on a core
@@ -112,15 +112,15 @@ last_answer b = answer_of b.lines
     answer_of (l ∷ ls) = Some l.answer
 
 -- the rule has this turn, where the cores have these picks: it enters this entry of this user
-pub record IsEntrant (users : List User) (g : Going) (picks : List (List Pick)) (t : Turn) (u : User) (e : Entry) : Type 0 where
+pub record IsEntrant (users : List User) (g : RunState) (picks : List (List Pick)) (t : Turn) (u : User) (e : Entry) : Type 0 where
   pub is_user : slice_get users t.pick.user ≡ Some u
   pub is_entry : slice_get u.entries t.pick.number ≡ Some e
   pub picked : IsPicked g picks t.core t.pick
   pub enters : may_enter (log_of g.book) t.core u.thread ≡ true
 
 -- the rule has no such turn
-abbrev pub HasNoTurn : List User → Going → CoreId → Pick → Type 0
-HasNoTurn users g core k = (h : Going) → IsTurn users core k g h → ⊥
+abbrev pub HasNoTurn : List User → RunState → CoreId → Pick → Type 0
+HasNoTurn users g core k = (h : RunState) → IsTurn users core k g h → ⊥
 
 -- an entry of a user on a core
 abbrev pub turn_of : CoreId → Pick → Turn
@@ -140,18 +140,18 @@ abbrev pub turns_of : CoreId → List Pick → List Pick → List Turn
 turns_of core now js = map (turn_of core) now ++ stale_turns core now js
 
 -- the turns of a core, where the cores have these picks
-abbrev pub turns_on : Going → List (List Pick) → ℕ → List Turn
+abbrev pub turns_on : RunState → List (List Pick) → ℕ → List Turn
 turns_on g picks i = turns_of (record { 0 = i }) (picks_at picks i) (picks_at g.stale i)
 
 -- those of the first n cores
-abbrev pub turns_below : Going → List (List Pick) → ℕ → List Turn
+abbrev pub turns_below : RunState → List (List Pick) → ℕ → List Turn
 turns_below g picks zero = []
 turns_below g picks (suc n) = turns_below g picks n ++ turns_on g picks n
 
 -- each turn that the rule has is among these
-abbrev pub HasEachTurn : List User → Going → List Turn → Type 0
-HasEachTurn users g ts = (core : CoreId) (k : Pick) (h : Going) → IsTurn users core k g h → Contains ts (turn_of core k)
+abbrev pub HasEachTurn : List User → RunState → List Turn → Type 0
+HasEachTurn users g ts = (core : CoreId) (k : Pick) (h : RunState) → IsTurn users core k g h → Contains ts (turn_of core k)
 
 -- each of these turns enters what its core picks, or picked before
-abbrev pub ArePicked : Going → List (List Pick) → List Turn → Type 0
+abbrev pub ArePicked : RunState → List (List Pick) → List Turn → Type 0
 ArePicked g picks ts = (t : Turn) → Contains ts t → IsPicked g picks t.core t.pick

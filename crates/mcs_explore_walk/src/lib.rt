@@ -5,7 +5,7 @@
 mod copies;
 mod fault;
 mod mail;
-mod scheduling;
+mod schedule;
 mod turns;
 mod walk;
 

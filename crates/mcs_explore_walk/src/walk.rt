@@ -9,7 +9,7 @@ ghost use Rattle.mcs_book.specs.Threads.{prio_of};
 ghost use Rattle.mcs_turns.specs.declared.position.Position.{Position};
 ghost use Rattle.mcs_turns.specs.Due.{is_same, none_stale, picks_at, stale_after};
 ghost use Rattle.mcs_turns.specs.Mail.{brought};
-ghost use Rattle.mcs_turns.specs.Turns.{Going, IsStale, ArePicks, IsOver, IsTurn, Follows, all_answered, beginning, entered, put_at, saved_at, started};
+ghost use Rattle.mcs_turns.specs.Turns.{RunState, IsStale, ArePicks, IsOver, IsTurn, Follows, all_answered, beginning, entered, put_at, saved_at, started};
 ghost use Rattle.mcs_explore_walk.specs.Walks.{AreBest, AreBestBelow, EntersSomewhere, HasEachTurn, HasNoTurn, IsBestBelow, IsEntrant, IsEntryCore, IsOffer, IsPicked, is_let_in, last_answer, left_stale, step_of};
 
 use crate::copies::copy_all;
@@ -32,7 +32,7 @@ pub struct Turn {
 
 /// A candidate: the core on which a user can enter now, its pick, and its thread.
 #[derive(Clone, Copy, Drop)]
-pub(crate) struct Offer {
+pub(crate) struct Candidate {
     pub core: CoreId,
     pub pick: Pick,
     pub thread: ObjId,
@@ -59,9 +59,9 @@ impl<L: Lines> Drop for Walk<L> {
 }
 
 impl<L: Lines> Model for Walk<L> {
-    ghost use Rattle.mcs_turns.specs.Turns.{Going};
+    ghost use Rattle.mcs_turns.specs.Turns.{RunState};
 
-    ghost Value = { Going };
+    ghost Value = { RunState };
 
     ghost view = { λ w. record {
       book = w.kernel;
@@ -247,7 +247,7 @@ impl<L: Lines> Walk<L> {
 
     /// Returns what a user can enter now; None if it has no entry left, or its thread may enter
     /// nowhere.
-    pub(crate) fn offer(&self, users: &Users, user: usize) -> Option<Offer>
+    pub(crate) fn candidate(&self, users: &Users, user: usize) -> Option<Candidate>
         ensures { IsOffer users.now self.now user result }
     {
         let list = users.at(user)?;
@@ -258,7 +258,7 @@ impl<L: Lines> Walk<L> {
             return None;
         }
         let core = entry_core(&self.kernel, list.thread, status)?;
-        Some(Offer {
+        Some(Candidate {
             core,
             pick: Pick { user, number },
             thread: list.thread,
@@ -267,19 +267,19 @@ impl<L: Lines> Walk<L> {
 
     /// Returns the better of a user's candidate and the best of earlier users on that core.
     #[tactic(auto, using(crate::proofs::Picking::is_first))]
-    fn better(&self, users: &Users, user: usize, offer: Offer, best: Option<Pick>) -> Pick
-        requires offer { IsOffer users.now self.now user (Some offer) }
-        requires best { IsBestBelow users.now self.now offer.core user best }
-        ensures { IsBestBelow users.now self.now offer.core (user + 1) (Some result) }
+    fn better(&self, users: &Users, user: usize, candidate: Candidate, best: Option<Pick>) -> Pick
+        requires candidate { IsOffer users.now self.now user (Some candidate) }
+        requires best { IsBestBelow users.now self.now candidate.core user best }
+        ensures { IsBestBelow users.now self.now candidate.core (user + 1) (Some result) }
     {
         let Some(before) = best else {
-            return offer.pick;
+            return candidate.pick;
         };
         let Some(list) = users.at(before.user) else {
             unreachable!();
         };
-        if goes_before(&self.kernel, offer.thread, list.thread) {
-            offer.pick
+        if goes_before(&self.kernel, candidate.thread, list.thread) {
+            candidate.pick
         } else {
             before
         }
@@ -293,13 +293,13 @@ impl<L: Lines> Walk<L> {
         ensures best { AreBestBelow users.now self.now (user + 1) best.new.items }
         ensures length { length best.new.items ≡ length best.old.items }
     {
-        let Some(offer) = self.offer(users, user) else {
+        let Some(candidate) = self.candidate(users, user) else {
             return;
         };
-        let core = offer.core.0 as usize;
+        let core = candidate.core.0 as usize;
         if core < best.len() {
             let before = best[core];
-            let better = self.better(users, user, offer, before);
+            let better = self.better(users, user, candidate, before);
             best[core] = Some(better);
         }
     }
@@ -469,7 +469,7 @@ impl<L: Lines> Walk<L> {
     /// Returns whether the rule allows a turn, given the picks of the cores.
     pub fn has_turn(&self, users: &Users, picks: &[Picks], turn: Turn) -> bool
         requires { ArePicks users.now self.now picks.now }
-        ensures yes { result ≡ true → (h : Going)
+        ensures yes { result ≡ true → (h : RunState)
             × IsTurn users.now turn.core turn.pick self.now h }
         ensures no { result ≡ false → HasNoTurn users.now self.now turn.core turn.pick }
     {
@@ -481,7 +481,7 @@ impl<L: Lines> Walk<L> {
         requires picks { ArePicks users.now self.now picks.now }
         requires turns { HasEachTurn users.now self.now turns.now }
         ensures over { result ≡ true → IsOver users.now self.now }
-        ensures goes_on { result ≡ false → (h : Going) × Follows users.now self.now h }
+        ensures goes_on { result ≡ false → (h : RunState) × Follows users.now self.now h }
     {
         for index in 0..turns.len() {
             if self.has_turn(users, picks, turns[index]) {

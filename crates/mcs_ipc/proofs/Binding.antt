@@ -22,8 +22,8 @@ use Rattle.mcs_book.specs.Table.{row}
 use Rattle.mcs_book.proofs.Firm.Laws.{context-none, homed_at-none, none-is}
 use Rattle.mcs_state.specs.Changing.{record_of, changes}
 use Rattle.mcs_state.specs.Checks.{kinded, object_found, object_named, act_of}
-use Rattle.mcs_state.specs.declared.changing.Change.{Change}
-use Rattle.mcs_state.specs.declared.changing.Change.TheVariants as change
+use Rattle.mcs_state.specs.declared.changes.Change.{Change}
+use Rattle.mcs_state.specs.declared.changes.Change.TheVariants as change
 use Rattle.mcs_state.proofs.Named.{object-is, named-there, found-alive}
 use Rattle.mcs_ipc.specs.Holding.{given, given_found, bindable, taken_found, unbindable, unbinds}
 

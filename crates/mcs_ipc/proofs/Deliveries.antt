@@ -33,7 +33,7 @@ use Rattle.mcs_state.specs.Now.{Now, so_far, adds, IsNumberOf}
 use Rattle.mcs_state.specs.Doing.{Makes, HasRoomFor}
 use Rattle.mcs_ipc.specs.Ready.{IsReady, IsSettling, IsCalling}
 use Rattle.mcs_ipc.specs.Rows.{lent_of, lent, resumes, taken_by, answer_to, send_act}
-use Rattle.mcs_ipc.specs.declared.taking.Delivery.{Delivery}
+use Rattle.mcs_ipc.specs.declared.transfer.Delivery.{Delivery}
 
 -- a message of this number is open
 pub numbered-open : (R : Log) (x : ObjId) (n : ℕ) → IsNumberOf n (open_of R x) → IsTrue (is_open R n)

@@ -35,7 +35,7 @@ use Rattle.mcs_book.proofs.Messages.SendersOpen.{open-back, open-sent_back}
 use Rattle.mcs_book.proofs.Queues.QueueLaws.{first-stands}
 use Rattle.mcs_book.proofs.SoundLogs.Keeping.{sent_record, then-next}
 use Rattle.mcs_book.proofs.SoundLogs.KeptLaws.{set-kept}
-use Rattle.mcs_notify.specs.declared.signalling.Hearer.{Hearer}
+use Rattle.mcs_notify.specs.declared.signals.Hearer.{Hearer}
 use Rattle.mcs_notify.specs.Hearing.{reached, goes_on, heard_by}
 use Rattle.mcs_notify.specs.Rows.{signal_act}
 use Rattle.mcs_notify.proofs.Hearing.{IsReached, reached-is, signal-is, heard-is}

@@ -14,8 +14,8 @@ use Rattle.mcs_book.specs.Cancelling.{unbind}
 use Rattle.mcs_book.specs.Lookup.{capability}
 use Rattle.mcs_book.specs.Pieces.{Act, answers}
 use Rattle.mcs_state.specs.Checks.{object_named}
-use Rattle.mcs_state.specs.declared.changing.Change.{Change}
-use Rattle.mcs_state.specs.declared.changing.Change.TheVariants.{Holds, Homes}
+use Rattle.mcs_state.specs.declared.changes.Change.{Change}
+use Rattle.mcs_state.specs.declared.changes.Change.TheVariants.{Holds, Homes}
 
 -- a loose context is given to a thread that holds none, or homed at a notification at which none is
 abbrev pub given : Kind → Log → ObjId → ObjId → Checked Change

@@ -35,7 +35,7 @@ use Rattle.mcs_ipc.specs.declared.checks.Source.{Source}
 use Rattle.mcs_ipc.specs.declared.checks.Source.TheVariants as source
 use Rattle.mcs_ipc.specs.declared.checks.Target.{Target}
 use Rattle.mcs_ipc.specs.declared.checks.Target.TheVariants as target
-use Rattle.mcs_ipc.specs.declared.taking.Delivery.{Delivery}
+use Rattle.mcs_ipc.specs.declared.transfer.Delivery.{Delivery}
 
 -- what one sends over by a capability to an object of this kind
 abbrev pub target_by : Kind → Cap → Checked Target

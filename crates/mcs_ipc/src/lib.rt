@@ -5,14 +5,14 @@
 
 mod checks;
 mod contexts;
-mod exchanging;
-mod receiving;
-mod replying;
-mod sending;
-mod taking;
+mod exchange;
+mod receive;
+mod reply;
+mod send;
+mod transfer;
 
 pub use contexts::{bind_context, unbind_context};
-pub use exchanging::{Ends, exchange};
-pub use receiving::{receive, reply_receive};
-pub use replying::pay;
-pub use sending::{call, send};
+pub use exchange::{Ends, exchange};
+pub use receive::{receive, reply_receive};
+pub use reply::pay;
+pub use send::{call, send};

@@ -16,7 +16,6 @@ ghost use Rattle.mcs_state.specs.Doing.{Does, Fits, plain_answer};
 ghost use Rattle.mcs_state.specs.Entering.{IsEntering, OpenStand, OnlyBoundWait};
 ghost use Rattle.mcs_kernel.specs.Faults.{fault_of, entered, with_entry, FailsForMemory};
 
-mod asking;
 mod queries;
 
 use crate::fault::EnterFault;

@@ -3,12 +3,12 @@
 
 mod fault;
 mod kernel;
-mod ongoing;
-mod replaying;
+mod replay;
+mod step_list;
 
 pub use fault::{EnterFault, ReplayFault};
 pub use kernel::Kernel;
 pub use mcs_boots::Boot;
 pub use mcs_types::Step;
-pub use ongoing::Replay;
-pub use replaying::replay;
+pub use replay::Replay;
+pub use step_list::replay;

@@ -8,10 +8,10 @@ use Rattle.mcs_text.specs.Reading.{words_of}
 use Rattle.mcs_kernel.specs.declared.fault.EnterFault.{EnterFault}
 use Rattle.mcs_kernel.specs.declared.fault.EnterFault.TheVariants as fault
 use Rattle.mcs_lab_check.specs.Names.{number_of, object_of, queue_of}
-use Rattle.mcs_lab_check.specs.declared.asking.Question.{Question}
-use Rattle.mcs_lab_check.specs.declared.asking.Question.TheVariants as ask
-use Rattle.mcs_lab_check.specs.declared.asking.Asked.{Asked}
-use Rattle.mcs_lab_check.specs.declared.asking.Asked.TheVariants as asked
+use Rattle.mcs_lab_check.specs.declared.questions.Question.{Question}
+use Rattle.mcs_lab_check.specs.declared.questions.Question.TheVariants as ask
+use Rattle.mcs_lab_check.specs.declared.questions.Asked.{Asked}
+use Rattle.mcs_lab_check.specs.declared.questions.Asked.TheVariants as asked
 
 -- the reason that a word names
 abbrev pub reason_of : List ℕ → Option EnterFault

@@ -2,11 +2,11 @@
 -- make.
 use Rattle.std.specs.Prelude.{ℕ, ◌-◌, Bool, true, false, cond, List, [], ◌∷◌, ◌==◌, ◌&&◌, take, length, Option, Some, None}
 use Rattle.mcs_book.specs.History.{Book}
-use Rattle.mcs_phases.specs.Going.{Going, no_line, at_line, fed}
+use Rattle.mcs_phases.specs.Feeds.{FeedState, no_line, at_line, fed}
 use Rattle.mcs_lab_check.specs.Asking.{asked_of}
 use Rattle.mcs_lab_check.specs.Verdicts.{line_count, sent_count, newest, answers_so, found, reason, was_away, says_so}
-use Rattle.mcs_lab_check.specs.declared.asking.Asked.{Asked}
-use Rattle.mcs_lab_check.specs.declared.asking.Asked.TheVariants as asked
+use Rattle.mcs_lab_check.specs.declared.questions.Asked.{Asked}
+use Rattle.mcs_lab_check.specs.declared.questions.Asked.TheVariants as asked
 use Rattle.mcs_lab_check.specs.declared.last.Last.{Last}
 use Rattle.mcs_lab_check.specs.declared.last.Last.TheVariants.{NoStep, Away, LetIn}
 use Rattle.mcs_lab_check.specs.declared.last.LineResult.{LineResult}
@@ -15,7 +15,7 @@ use Rattle.mcs_lab_check.specs.declared.last.LineResult.TheVariants as line_resu
 -- a script that is checked: its replay, whether its last step was accepted, and the text of that
 -- step
 pub record Checked : Type 0 where
-  pub run : Going
+  pub run : FeedState
   pub last : Last
   pub step : List ℕ
 

@@ -18,8 +18,8 @@ use Rattle.mcs_book.specs.Notifications.{bound_of}
 use Rattle.mcs_book.specs.Replies.{owed_by, receiver_with}
 use Rattle.mcs_book.specs.Slots.{slot}
 use Rattle.mcs_state.specs.Questions.{priority_of, word_of}
-use Rattle.mcs_lab_check.specs.declared.asking.Question.{Question}
-use Rattle.mcs_lab_check.specs.declared.asking.Question.TheVariants as ask
+use Rattle.mcs_lab_check.specs.declared.questions.Question.{Question}
+use Rattle.mcs_lab_check.specs.declared.questions.Question.TheVariants as ask
 
 -- a name and a word
 abbrev pub begin : ObjId → List ℕ → List ℕ

@@ -13,7 +13,7 @@ use Rattle.mcs_kernel.specs.declared.fault.EnterFault.TheVariants as fault
 use Rattle.mcs_sim.specs.Trace.{sent_with}
 use Rattle.mcs_lab_check.specs.Names.{number_of, object_of}
 use Rattle.mcs_lab_check.specs.Seen.{seen}
-use Rattle.mcs_lab_check.specs.declared.asking.Question.{Question}
+use Rattle.mcs_lab_check.specs.declared.questions.Question.{Question}
 use Rattle.mcs_lab_check.specs.declared.last.Last.{Last}
 use Rattle.mcs_lab_check.specs.declared.last.Last.TheVariants.{NoStep, Away, LetIn}
 

@@ -1,29 +1,29 @@
 //! Scripts that test themselves: checks what each expects of its steps, by questions to the kernel.
 #![tactic(auto)]
 
-mod asking;
 mod by_name;
-mod checking;
+mod checker;
 mod fault;
 mod flaw;
-mod judging;
+mod input;
+mod judge;
 mod last;
 mod latest;
 mod names;
 mod outcome;
-mod reading;
-mod seeing;
+mod questions;
+mod seen_answers;
 mod tap;
 mod text;
 mod words;
 
-pub use checking::check;
+pub use checker::check;
 pub use fault::LabFault;
 pub use flaw::{Flaw, flaw_of};
-pub use judging::{Judge, entrant_of};
+pub use input::{TakesLines, take_lines};
+pub use judge::{Judge, entrant_of};
 pub use last::{Last, LineResult};
 pub use names::{Labels, Named};
 pub use outcome::Outcome;
-pub use reading::{TakesLines, take_lines};
 pub use tap::{bare, put_shown};
 pub use words::{object_of, queue_of};

@@ -1,5 +1,5 @@
 //! The bars of lanes on the page.
-use crate::naming::{Naming, put_full_name};
+use crate::labels::{Naming, put_full_name};
 use crate::notes::{is_ready, put_look, put_whole_look};
 use crate::paper::{Area, put_area, put_attribute};
 use crate::plans::Plan;

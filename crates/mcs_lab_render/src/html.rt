@@ -1,7 +1,7 @@
 //! The picture as a page of its own, through which a reader steps by keys, by a slider, and by
 //! clicks on rows. The panel with the step is beside the picture, and below it in narrow windows;
 //! both scroll by themselves, so neither hides the other. The heads of the lanes stay in sight.
-use crate::naming::Naming;
+use crate::labels::Naming;
 use crate::paper::put_attribute;
 use crate::scene::Scene;
 use crate::svg::svg_of;

@@ -1,6 +1,6 @@
 //! Lays out a page: first its rows with texts and arrows, then the heights of the rows and the
 //! positions of the lanes.
-use crate::naming::{Naming, put_name};
+use crate::labels::{Naming, put_name};
 use crate::notes::{FEW, has_note, marked, put_label, put_look, put_lost, put_mark};
 use crate::numbers::put_words;
 use crate::paper::LOST_TEXT;

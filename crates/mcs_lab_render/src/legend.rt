@@ -1,7 +1,7 @@
 //! What is below the lanes: the state of every thread at the end, and the legend of colours and
 //! lines.
 use crate::bars::{Shape, put_bar, put_state, shape_of};
-use crate::naming::{Naming, put_full_name};
+use crate::labels::{Naming, put_full_name};
 use crate::paper::{Area, put_far, put_lost_line, put_point, put_text};
 use crate::plans::{COLUMN, Counts, Plan, SLOT};
 use crate::scene::{Scene, place_of};

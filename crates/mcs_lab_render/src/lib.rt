@@ -3,12 +3,12 @@
 #![tactic(auto)]
 
 mod bars;
-mod choosing;
+mod choice;
 mod html;
+mod labels;
 mod layout;
 mod legend;
 mod mermaid;
-mod naming;
 mod notes;
 mod numbers;
 mod paper;
@@ -21,6 +21,6 @@ mod svg;
 mod texts;
 mod titles;
 
-pub use choosing::{NoThreads, threads_named};
+pub use choice::{NoThreads, threads_named};
 pub use mcs_lab_diagram::Window;
 pub use scripts::{Asked, Format, draw_script};

@@ -1,6 +1,6 @@
 //! The picture as a `sequenceDiagram` of Mermaid.
+use crate::labels::{Naming, put_full_name, put_id};
 use crate::layout::plan_of;
-use crate::naming::{Naming, put_full_name, put_id};
 use crate::plans::{Note, NoteKind, Plan, Row, RowKind, Stroke};
 use crate::scene::Scene;
 use crate::texts::{Words, take_text};

@@ -1,5 +1,5 @@
 //! The notes beside lanes and arrows.
-use crate::naming::{Naming, put_name, put_queue};
+use crate::labels::{Naming, put_name, put_queue};
 use crate::numbers::{is_large, put_number};
 use mcs_book::{Book, Line};
 use mcs_lab_diagram::{Arrow, Look, Point, Shown, Strokes};

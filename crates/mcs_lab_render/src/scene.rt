@@ -1,5 +1,5 @@
 //! The drawing, and which part of it is shown.
-use crate::naming::Naming;
+use crate::labels::Naming;
 use crate::steps::Steps;
 use mcs_lab_diagram::{Drawing, Window};
 use mcs_plan_source::STARTER;

@@ -1,5 +1,5 @@
 //! The names that a script gives, as a picture asks for them.
-use crate::naming::Naming;
+use crate::labels::Naming;
 use mcs_lab_check::Labels;
 use mcs_types::ObjId;
 use std::str;

@@ -1,8 +1,8 @@
 //! The picture as SVG.
 use crate::bars::put_bars;
+use crate::labels::{Naming, put_full_name};
 use crate::layout::plan_of;
 use crate::legend::{Seen, put_end, put_legend, seen_in};
-use crate::naming::{Naming, put_full_name};
 use crate::paper::{
     Area, LOST_TEXT, STYLE, Way, put_area, put_attribute, put_far, put_lost_line, put_point,
     put_short_line, put_text,

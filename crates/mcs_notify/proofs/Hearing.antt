@@ -23,7 +23,7 @@ use Rattle.mcs_state.specs.Doing.{Holds, Makes, HasRoomFor}
 use Rattle.mcs_state.specs.Entering.{OnlyBoundWait}
 use Rattle.mcs_state.specs.Now.{Now, so_far, adds_all}
 use Rattle.mcs_state.proofs.Doing.{makes-then, room-first, room-next}
-use Rattle.mcs_notify.specs.declared.signalling.Hearer.{Hearer}
+use Rattle.mcs_notify.specs.declared.signals.Hearer.{Hearer}
 use Rattle.mcs_notify.specs.Hearing.{among_receivers, waiter, next_hearer, unless_pending, reached, goes_on, heard_by}
 use Rattle.mcs_notify.specs.Waiting.{NoneElseBound}
 

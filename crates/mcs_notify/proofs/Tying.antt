@@ -19,8 +19,8 @@ use Rattle.mcs_book.specs.Sound.{Sound, Allowed, IsThere}
 use Rattle.mcs_book.specs.Table.{row}
 use Rattle.mcs_book.proofs.Firm.Laws.{tied-none}
 use Rattle.mcs_state.specs.Changing.{record_of, changes}
-use Rattle.mcs_state.specs.declared.changing.Change.{Change}
-use Rattle.mcs_state.specs.declared.changing.Change.TheVariants as change
+use Rattle.mcs_state.specs.declared.changes.Change.{Change}
+use Rattle.mcs_state.specs.declared.changes.Change.TheVariants as change
 use Rattle.mcs_state.specs.Checks.{kinded, readable, object_found, object_named, act_of}
 use Rattle.mcs_state.proofs.Named.{object-is, kinded-ok, readable-ok, found-alive, named-there}
 use Rattle.mcs_notify.specs.Tying.{tied, notification_named, bindable, untied, unbindable}

@@ -11,7 +11,7 @@ use Rattle.mcs_book.specs.Queues.{queue_of, first_in}
 use Rattle.mcs_book.specs.Notifications.{tied_to, pending}
 use Rattle.mcs_book.specs.Pieces.{Piece, ◌then◌, say}
 use Rattle.mcs_book.specs.Signalling.{wake}
-use Rattle.mcs_notify.specs.declared.signalling.Hearer.{Hearer}
+use Rattle.mcs_notify.specs.declared.signals.Hearer.{Hearer}
 
 -- a thread, where it is in a queue of receivers
 abbrev pub among_receivers : ObjId → Option Queue → Option Hearer

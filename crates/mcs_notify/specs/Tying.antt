@@ -10,8 +10,8 @@ use Rattle.mcs_book.specs.Lookup.{capability}
 use Rattle.mcs_book.specs.Notifications.{bound_of, tied_to}
 use Rattle.mcs_book.specs.Queues.{first_in}
 use Rattle.mcs_state.specs.Checks.{kinded, readable, object_found, object_named}
-use Rattle.mcs_state.specs.declared.changing.Change.{Change}
-use Rattle.mcs_state.specs.declared.changing.Change.TheVariants.{Ties}
+use Rattle.mcs_state.specs.declared.changes.Change.{Change}
+use Rattle.mcs_state.specs.declared.changes.Change.TheVariants.{Ties}
 
 -- a thread and a notification that were found, of which the first is tested first, where neither is
 -- bound, and no thread waits

@@ -3,9 +3,9 @@
 #![tactic(auto)]
 
 mod binding;
-mod signalling;
-mod waiting;
+mod signals;
+mod waits;
 
 pub use binding::{bind, unbind};
-pub use signalling::{signal, signal_at};
-pub use waiting::{may_wait, take_bound, wait};
+pub use signals::{signal, signal_at};
+pub use waits::{may_wait, take_bound, wait};

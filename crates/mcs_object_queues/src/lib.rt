@@ -1,8 +1,8 @@
 //! Threads that wait in the queues of endpoints and notifications.
 #![tactic(auto)]
 
+mod interface;
 mod queues;
-mod waiting;
 
+pub use interface::Waiting;
 pub use queues::ObjectQueues;
-pub use waiting::Waiting;

@@ -7,7 +7,7 @@ ghost use Rattle.mcs_queues.specs.Numbers.{thread_number, line_number};
 ghost use Rattle.mcs_objects.specs.Store.{shape, is_full};
 ghost use Rattle.mcs_object_queues.specs.Places.{thread_at, below_room, number_of};
 
-use crate::waiting::Waiting;
+use crate::interface::Waiting;
 use mcs_objects::Store;
 use mcs_queues::{LineNo, Lines, ThreadNo};
 use mcs_types::{Kind, OBJECTS, ObjId, OutOfMemory, Prio, Queue};

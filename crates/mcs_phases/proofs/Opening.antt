@@ -17,7 +17,7 @@ use Rattle.mcs_text.specs.Reading.{◌>>=◌, onto_first, lines_of, words_of, st
 use Rattle.mcs_phases.specs.declared.fault.SimFault.{SimFault}
 use Rattle.mcs_phases.specs.declared.fault.SimFault.TheVariants as fault
 use Rattle.mcs_phases.specs.Script.{Script, of_steps, no_script, threads_of, says_something, first_boot, next_boot, next_items, later_line, by_boot, spelled, read_line, ending, script_from, script_of, steps}
-use Rattle.mcs_phases.specs.Going.{BootOrBook, Course, Going, no_line, begun_by, stepped, behind_boot, step_spelled, step_line, read_at, stands, opened, after_boot_line, after_step, book_after, after_line, ended_by, refused_for, past_line, with_line, after_end, boot_ended_after, boot_ended, at_line, with_part, fed, with_last, at_end, ended}
+use Rattle.mcs_phases.specs.Feeds.{BootOrBook, Course, FeedState, no_line, begun_by, stepped, behind_boot, step_spelled, step_line, read_at, stands, opened, after_boot_line, after_step, book_after, after_line, ended_by, refused_for, past_line, with_line, after_end, boot_ended_after, boot_ended, at_line, with_part, fed, with_last, at_end, ended}
 
 -- the boot had ended, and this is its first step
 pub record IsFirstStep (boot : Option Boot) (t : Script Step) : Type 0 where

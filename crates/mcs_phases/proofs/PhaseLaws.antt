@@ -7,7 +7,7 @@ use Rattle.mcs_book.specs.History.{Book}
 use Rattle.mcs_phases.specs.Script.{Script, of_steps, read_line}
 use Rattle.mcs_phases.specs.declared.fault.SimFault.{SimFault}
 use Rattle.mcs_phases.specs.declared.fault.SimFault.TheVariants as fault
-use Rattle.mcs_phases.specs.Going.{ComesOf, stands, read_at, after_boot_line, book_after, after_line}
+use Rattle.mcs_phases.specs.Feeds.{ComesOf, stands, read_at, after_boot_line, book_after, after_line}
 use Rattle.mcs_phases.specs.Phases.{opened_to}
 use Rattle.mcs_phases.proofs.Opening.{IsOpening, IsFirstStep, read_line-opening}
 

@@ -1,5 +1,5 @@
 pub mod Faults
 pub mod BootLines
 pub mod Script
-pub mod Going
+pub mod Feeds
 pub mod Phases

@@ -2,7 +2,7 @@
 use Rattle.std.specs.Prelude.{ℕ, ◌≡◌, Option, Some, None, Result, Ok, Err, []}
 use Rattle.mcs_book.specs.Boots.{Boot}
 use Rattle.mcs_book.specs.History.{Book}
-use Rattle.mcs_phases.specs.Going.{BootOrBook}
+use Rattle.mcs_phases.specs.Feeds.{BootOrBook}
 use Rattle.mcs_phases.specs.declared.fault.SimFault.{SimFault}
 use Rattle.mcs_phases.specs.declared.fault.SimFault.TheVariants as fault
 use Rattle.mcs_phases.specs.declared.phase.Outcome.{Outcome}

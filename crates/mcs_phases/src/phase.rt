@@ -2,7 +2,7 @@
 ghost use Rattle.std.specs.Prelude.{ℕ, ◌≡◌, ◌≤◌, ◌∷◌, IfOk, OnOk, OnErr, IsSome, [], Err, None, option_copied, option_to_list};
 ghost use Rattle.mcs_text.specs.Reading.{Gives};
 ghost use Rattle.mcs_phases.specs.Script.{threads_of, read_line, of_steps};
-ghost use Rattle.mcs_phases.specs.Going.{ComesOf, not_begun, begun_by, said, stepped, step_line, book_after, read_at, opened, after_line, after_end};
+ghost use Rattle.mcs_phases.specs.Feeds.{ComesOf, not_begun, begun_by, said, stepped, step_line, book_after, read_at, opened, after_line, after_end};
 ghost use Rattle.mcs_phases.specs.Phases.{opened_to, seen, HasNoItems, answer_at};
 
 use crate::fault::SimFault;
@@ -80,7 +80,7 @@ impl Outcome {
 /// Takes a step.
 // not inlined: otherwise each line would save and clear its registers and locals
 #[inline(never)]
-#[tactic(auto, unfolding(crate::specs::Going::stepped))]
+#[tactic(auto, unfolding(crate::specs::Feeds::stepped))]
 fn take_step(replay: &mut Replay<LinkedLines>, alloc: Global, step: &Step) -> Outcome
     ensures takes { (number : ℕ) → ComesOf (λ u. replay.new.book) (answer_at number result)
         (stepped replay.old.book step.now) }
@@ -132,7 +132,7 @@ impl StepRun {
     }
 
     /// Takes the line of this number.
-    #[tactic(auto, unfolding(crate::specs::Going::book_after))]
+    #[tactic(auto, unfolding(crate::specs::Feeds::book_after))]
     fn take_line(&mut self, alloc: Global, number: u64, line: &[u8]) -> Outcome
         ensures takes { ComesOf (λ u. self.new) (answer_at number result)
             (book_after self.old number line.now) }
@@ -161,7 +161,7 @@ impl StepRun {
 /// Reads the step of the line with this number after a boot with these numbers of cores and
 /// threads, if the line is not skipped. Returns whether it has one. A message of more than four
 /// words uses the room up.
-#[tactic(auto, unfolding(crate::specs::Going::step_line))]
+#[tactic(auto, unfolding(crate::specs::Feeds::step_line))]
 fn read_step_line(
     alloc: Global,
     cores: u8,
@@ -313,7 +313,7 @@ impl Phase {
 
     /// Ends the boot at the end of the input, if no step did. Fault `Script` with `NoCores` (1) and
     /// this line number if no line said the number of cores.
-    #[tactic(auto, unfolding(crate::specs::Going::after_end))]
+    #[tactic(auto, unfolding(crate::specs::Feeds::after_end))]
     pub fn end_boot(&mut self, alloc: Global, number: u64) -> Result<(), SimFault>
         requires { HasNoItems self.old }
         ensures ends { ComesOf (λ u. seen self.new) result (after_end (seen self.old) number) }

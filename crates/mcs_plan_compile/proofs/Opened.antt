@@ -9,8 +9,8 @@ use Rattle.mcs_plan_source.specs.declared.plan.Passive.{Passive}
 use Rattle.mcs_plan_source.specs.declared.plan.Plan.{Plan}
 use Rattle.mcs_plan_source.specs.Saying.{SaidPassive, said, said_passive}
 use Rattle.mcs_plan_layout.specs.Laid.{LaidPlan}
-use Rattle.mcs_plan_compile.specs.declared.compiling.Entries.{Entries}
-use Rattle.mcs_plan_compile.specs.declared.compiling.PassiveSetup.{PassiveSetup}
+use Rattle.mcs_plan_compile.specs.declared.compiler.Entries.{Entries}
+use Rattle.mcs_plan_compile.specs.declared.compiler.PassiveSetup.{PassiveSetup}
 use Rattle.mcs_plan_compile.specs.declared.steps.Head.{Head}
 use Rattle.mcs_plan_compile.specs.Opening.{step_added, starter_head, leave_text, both_added, opened_at, opened_by, openings_said, left_said, opened_said, steps_said, after_said, IsOpeningOf, IsOpeningAt}
 use Rattle.mcs_plan_compile.specs.Reading.{ReadAt, RefusesAt, at_line, and_then}

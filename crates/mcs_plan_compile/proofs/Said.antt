@@ -14,7 +14,7 @@ use Rattle.mcs_plan_source.specs.Saying.{Said, said, nothing_said}
 use Rattle.mcs_plan_layout.specs.declared.laid.PlanLayout.{PlanLayout}
 use Rattle.mcs_plan_layout.specs.Fitting.{boot_fits}
 use Rattle.mcs_plan_layout.specs.Laid.{LaidPlan, IsLaid, laid_said, laid_of}
-use Rattle.mcs_plan_compile.specs.declared.compiling.Entries.{Entries}
+use Rattle.mcs_plan_compile.specs.declared.compiler.Entries.{Entries}
 use Rattle.mcs_plan_compile.specs.Opening.{after_said, are_users}
 use Rattle.mcs_plan_layout.specs.Starting.{IsStarted, RefusesStarter}
 use Rattle.mcs_plan_compile.specs.declared.script.Script.{Script}

@@ -5,7 +5,7 @@ use Rattle.mcs_plan_source.specs.declared.fault.PlanFault.{PlanFault}
 use Rattle.mcs_plan_source.specs.Naming.{texts}
 use Rattle.mcs_plan_source.specs.Refusals.{Read}
 use Rattle.mcs_plan_layout.specs.Laid.{LaidPlan}
-use Rattle.mcs_plan_compile.specs.declared.compiling.Entries.{Entries}
+use Rattle.mcs_plan_compile.specs.declared.compiler.Entries.{Entries}
 use Rattle.mcs_plan_compile.specs.Reading.{ReadAt, RefusesAt, at_line, and_then}
 use Rattle.mcs_plan_compile.specs.StepLines.{line_taken, lines_taken}
 use Rattle.mcs_plan_compile.proofs.Said.{rest_is}

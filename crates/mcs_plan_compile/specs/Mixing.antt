@@ -3,8 +3,8 @@ use Rattle.std.specs.Prelude.{Bool, true, false, not, ◌&&◌, List, [], ◌∷
 use Rattle.mcs_types.specs.declared.id.CoreId.{CoreId}
 use Rattle.mcs_plan_source.specs.Refusals.{Read, ◌>>◌, need, mixed, passive_user}
 use Rattle.mcs_plan_layout.specs.Laid.{LaidPlan}
-use Rattle.mcs_plan_compile.specs.declared.compiling.Entries.{Entries}
-use Rattle.mcs_plan_compile.specs.declared.compiling.Entries.TheVariants.{Nothing, Program, Steps, Users}
+use Rattle.mcs_plan_compile.specs.declared.compiler.Entries.{Entries}
+use Rattle.mcs_plan_compile.specs.declared.compiler.Entries.TheVariants.{Nothing, Program, Steps, Users}
 
 -- whether lines of the other kind came before: a step names its core, a line of a user does not
 abbrev pub is_mixed : Entries → Option CoreId → Bool

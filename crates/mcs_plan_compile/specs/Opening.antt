@@ -8,9 +8,9 @@ use Rattle.mcs_plan_source.specs.Refusals.{Read, ◌>>=◌, ◌>>◌}
 use Rattle.mcs_plan_source.specs.Saying.{Said, SaidPassive}
 use Rattle.mcs_plan_source.specs.Threads.{thread_at}
 use Rattle.mcs_plan_layout.specs.Laid.{LaidPlan}
-use Rattle.mcs_plan_compile.specs.declared.compiling.Entries.{Entries}
-use Rattle.mcs_plan_compile.specs.declared.compiling.Entries.TheVariants as entries
-use Rattle.mcs_plan_compile.specs.declared.compiling.PassiveSetup.{PassiveSetup}
+use Rattle.mcs_plan_compile.specs.declared.compiler.Entries.{Entries}
+use Rattle.mcs_plan_compile.specs.declared.compiler.Entries.TheVariants as entries
+use Rattle.mcs_plan_compile.specs.declared.compiler.PassiveSetup.{PassiveSetup}
 use Rattle.mcs_plan_compile.specs.declared.steps.Head.{Head}
 use Rattle.mcs_plan_compile.specs.Heads.{step_read}
 use Rattle.mcs_plan_compile.specs.Programs.{all_closed}

@@ -7,8 +7,8 @@ use Rattle.mcs_plan_source.specs.Objects.{named_as}
 use Rattle.mcs_plan_source.specs.Refusals.{Read, ◌>>=◌, ◌>>◌, limit, need, unclosed}
 use Rattle.mcs_plan_source.specs.Words.{after_word, end_of, word_then}
 use Rattle.mcs_plan_layout.specs.Laid.{LaidPlan}
-use Rattle.mcs_plan_compile.specs.declared.compiling.Entries.{Entries}
-use Rattle.mcs_plan_compile.specs.declared.compiling.Entries.TheVariants as entries
+use Rattle.mcs_plan_compile.specs.declared.compiler.Entries.{Entries}
+use Rattle.mcs_plan_compile.specs.declared.compiler.Entries.TheVariants as entries
 use Rattle.mcs_plan_compile.specs.Fields.{fields_of}
 use Rattle.mcs_plan_compile.specs.Heads.{step_read}
 use Rattle.mcs_plan_compile.specs.Mixing.{goes_on}

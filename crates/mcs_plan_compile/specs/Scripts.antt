@@ -6,7 +6,7 @@ use Rattle.mcs_plan_layout.specs.Naming.{cores_of}
 use Rattle.mcs_plan_layout.specs.Boot.{boot_of}
 use Rattle.mcs_plan_layout.specs.Starting.{IsStarted}
 use Rattle.mcs_plan_compile.specs.declared.script.Script.{Script}
-use Rattle.mcs_plan_compile.specs.declared.compiling.Entries.{Entries}
+use Rattle.mcs_plan_compile.specs.declared.compiler.Entries.{Entries}
 use Rattle.mcs_plan_compile.specs.Opening.{after_said, are_users}
 use Rattle.mcs_plan_compile.specs.Reading.{plan_said}
 use Rattle.mcs_plan_compile.specs.Telling.{lines_in}

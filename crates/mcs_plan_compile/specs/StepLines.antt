@@ -13,8 +13,8 @@ use Rattle.mcs_plan_source.specs.Threads.{thread_at}
 use Rattle.mcs_plan_source.specs.Words.{word_then, after_word, end_of, number_then}
 use Rattle.mcs_plan_layout.specs.Laid.{LaidPlan}
 use Rattle.mcs_plan_layout.specs.Naming.{cores_of}
-use Rattle.mcs_plan_compile.specs.declared.compiling.Entries.{Entries}
-use Rattle.mcs_plan_compile.specs.declared.compiling.Entries.TheVariants as entries
+use Rattle.mcs_plan_compile.specs.declared.compiler.Entries.{Entries}
+use Rattle.mcs_plan_compile.specs.declared.compiler.Entries.TheVariants as entries
 use Rattle.mcs_plan_compile.specs.declared.steps.Head.{Head}
 use Rattle.mcs_plan_compile.specs.Heads.{step_read}
 use Rattle.mcs_plan_compile.specs.Mixing.{is_any, is_steps, goes_on}

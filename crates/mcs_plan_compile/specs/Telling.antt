@@ -9,8 +9,8 @@ use Rattle.mcs_plan_source.specs.Saying.{Said}
 use Rattle.mcs_plan_layout.specs.Fitting.{boot_fits}
 use Rattle.mcs_plan_layout.specs.Laid.{LaidPlan, laid_of}
 use Rattle.mcs_plan_layout.specs.Starting.{IsStarted, RefusesStarter}
-use Rattle.mcs_plan_compile.specs.declared.compiling.Entries.{Entries}
-use Rattle.mcs_plan_compile.specs.declared.compiling.TheConstants.{LINES}
+use Rattle.mcs_plan_compile.specs.declared.compiler.Entries.{Entries}
+use Rattle.mcs_plan_compile.specs.declared.compiler.TheConstants.{LINES}
 use Rattle.mcs_plan_compile.specs.Opening.{after_said}
 use Rattle.mcs_plan_compile.specs.Reading.{ReadAt, RefusesAt, plan_said}
 

@@ -11,18 +11,18 @@
 //! ```
 #![tactic(auto)]
 
-mod compiling;
+mod address_map;
+mod compiler;
 mod entries;
+mod expectations;
 mod fields;
 mod lines;
-mod mapping;
 mod programs;
 mod script;
+mod script_text;
 mod steps;
-mod wanting;
-mod writing;
 
-pub use compiling::compile;
-pub use mapping::write_map;
+pub use address_map::write_map;
+pub use compiler::compile;
 pub use script::Script;
-pub use writing::{write_boot, write_lines, write_script};
+pub use script_text::{write_boot, write_lines, write_script};

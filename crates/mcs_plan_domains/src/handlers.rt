@@ -4,7 +4,7 @@ use crate::cursor::Cursor;
 use crate::ends::End;
 use crate::inputs::{Input, put_receive, put_reply, put_send_receive};
 use crate::lowered::Lowered;
-use crate::reading::program_error;
+use crate::parser::program_error;
 use crate::statements::Statement;
 use crate::system::{Channel, Domain, Event, System};
 use crate::words::has;

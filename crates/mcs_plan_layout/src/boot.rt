@@ -14,8 +14,8 @@ ghost use Rattle.mcs_plan_layout.specs.Boot.{cnode_at, cnode_of, guarded, root_l
 ghost use Rattle.mcs_plan_layout.specs.Boot.{slot_lines, link_lines, space_lines, before_of, filling, boot_of};
 
 use crate::LEAF;
-use crate::fitting::fits;
 use crate::laid::PlanLayout;
+use crate::limits::fits;
 use crate::starter::bare;
 use mcs_plan_source::{PlanError, Space, Thread};
 use mcs_types::{BootLine, Cap, Guard, Kind, ObjId};

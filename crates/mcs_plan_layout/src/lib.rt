@@ -19,10 +19,10 @@
 #![tactic(auto)]
 
 mod boot;
-mod fitting;
 mod laid;
 mod layout;
 mod layouts;
+mod limits;
 mod spaces;
 mod starter;
 mod tables;

@@ -11,8 +11,8 @@ use Rattle.mcs_plan_source.specs.declared.fault.PlanError.{PlanError}
 use Rattle.mcs_plan_source.specs.Naming.{next_of}
 use Rattle.mcs_plan_source.specs.declared.plan.Plan.{Plan}
 use Rattle.mcs_plan_source.specs.declared.plan.Thread.{Thread}
-use Rattle.mcs_plan_source.specs.declared.reading.ThreadForm.{ThreadForm}
-use Rattle.mcs_plan_source.specs.declared.reading.Receiving.{Receiving}
+use Rattle.mcs_plan_source.specs.declared.parser.ThreadForm.{ThreadForm}
+use Rattle.mcs_plan_source.specs.declared.parser.Receiving.{Receiving}
 use Rattle.mcs_plan_source.specs.Lines.{object_more, objects_line, has_line, tie_line, cores_line}
 use Rattle.mcs_plan_source.specs.Making.{keeps_limit}
 use Rattle.mcs_plan_source.specs.Objects.{may_name, named_as}

@@ -5,11 +5,11 @@
 mod capabilities;
 mod fault;
 mod names;
+mod parser;
 mod plan;
-mod reading;
 mod rights;
 mod shown;
-mod telling;
+mod trace_names;
 mod words;
 
 pub use fault::{PlanError, PlanFault};
@@ -17,5 +17,5 @@ pub use names::{Symbols, add_word, limit_of, plural, singular};
 pub use plan::{Passive, Plan, STARTER, Slot, Space, Thread, Tie};
 pub use rights::rights_of;
 pub use shown::Shown;
-pub use telling::tell_names;
+pub use trace_names::tell_names;
 pub use words::{Tokens, is_like_id, is_name, is_white, not, number, split_comment, split_words};

@@ -11,8 +11,8 @@ use Rattle.mcs_phases.specs.declared.fault.SimFault.{SimFault}
 use Rattle.mcs_phases.specs.declared.fault.SimFault.TheVariants as fault
 use Rattle.mcs_phases.specs.Script.{Script, steps}
 use Rattle.mcs_sim.specs.Outcomes.{ComesOfScript}
-use Rattle.mcs_phases.specs.Going.{Going, Course, Takes, TakesEnd, IsRefusedIn, answer_of, at_line, no_line, fed, ended, ended_by}
-use Rattle.mcs_sim.proofs.GoingScripts.{fed-as-read}
+use Rattle.mcs_phases.specs.Feeds.{FeedState, Course, Takes, TakesEnd, IsRefusedIn, answer_of, at_line, no_line, fed, ended, ended_by}
+use Rattle.mcs_sim.proofs.FeedScripts.{fed-as-read}
 use Rattle.mcs_plan_validate.specs.Reading.{IsScript, IsScriptOf}
 
 -- a book after a step, where it may enter or not
@@ -54,12 +54,12 @@ comes text (t, Some (line, why)) e c (inl h) answer = absurd (no-fault c.fault (
 comes text (t, Some (line, why)) e c (inr h) answer = absurd (no-fault c.fault fault.BookFull h.ended answer)
 
 -- where no fault ended it, it took all
-fed-whole : (old : Going) (bytes : List ℕ) (new : Going) → Takes old bytes new → answer_of new.course.fault ≡ Ok tt → new ≡ fed old bytes
+fed-whole : (old : FeedState) (bytes : List ℕ) (new : FeedState) → Takes old bytes new → answer_of new.course.fault ≡ Ok tt → new ≡ fed old bytes
 fed-whole old bytes new (inl e) answer = e
-fed-whole old bytes new (inr r) answer = let stopped = ap (λ (g : Going). answer_of g.course.fault) r.stopped in cc
+fed-whole old bytes new (inr r) answer = let stopped = ap (λ (g : FeedState). answer_of g.course.fault) r.stopped in cc
 
 -- the text that was fed to it from the beginning to the end is the script of its book
-pub taken : (text : List ℕ) (mid new : Going) → Takes (at_line no_line) text mid → answer_of mid.course.fault ≡ Ok tt → TakesEnd mid new → answer_of new.course.fault ≡ Ok tt
+pub taken : (text : List ℕ) (mid new : FeedState) → Takes (at_line no_line) text mid → answer_of mid.course.fault ≡ Ok tt → TakesEnd mid new → answer_of new.course.fault ≡ Ok tt
     → IsScriptOf text new.course.stands.book
 taken text mid new took fine end answer = go end
   where
@@ -68,7 +68,7 @@ taken text mid new took fine end answer = go end
 
     go : TakesEnd mid new → IsScriptOf text new.course.stands.book
     go (inl e) =
-        let course : new.course ≡ ended (fed (at_line no_line) text) = ap (λ (g : Going). g.course) e ∙ ap ended whole in
+        let course : new.course ≡ ended (fed (at_line no_line) text) = ap (λ (g : FeedState). g.course) e ∙ ap ended whole in
         subst (λ (c : Course). IsScriptOf text c.stands.book) (sym course)
         (comes text (steps text) refl (ended (fed (at_line no_line) text)) (fed-as-read text) (subst (λ (c : Course). answer_of c.fault ≡ Ok tt) course answer))
-    go (inr (n, e)) = absurd (no-fault new.course.fault fault.OutOfMemory (ap (λ (g : Going). g.course.fault) e) answer)
+    go (inr (n, e)) = absurd (no-fault new.course.fault fault.OutOfMemory (ap (λ (g : FeedState). g.course.fault) e) answer)

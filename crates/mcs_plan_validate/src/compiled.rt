@@ -4,8 +4,8 @@ ghost use Rattle.mcs_plan_compile.specs.Scripts.{HasBootOfPlan};
 ghost use Rattle.mcs_plan_validate.specs.Reading.{IsBootOf, IsVouched};
 
 use crate::fault::CompileFault;
-use crate::leading::first_unresolved;
-use crate::reading::{are_same_lines, booted, take_script};
+use crate::resolution::first_unresolved;
+use crate::script::{are_same_lines, booted, take_script};
 use mcs_book::Book;
 use mcs_plan_compile::{Script, compile, write_boot, write_lines, write_script};
 use mcs_text::read_user;

@@ -12,10 +12,10 @@
 mod aligned;
 mod compiled;
 mod fault;
-mod leading;
 mod loaded;
 mod origins;
-mod reading;
+mod resolution;
+mod script;
 
 pub use aligned::{Numbered, align_questions};
 pub use compiled::{Compiled, compile_text};

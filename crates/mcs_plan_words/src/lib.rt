@@ -18,31 +18,31 @@ mod alignment;
 mod entry_forms;
 mod hints;
 mod line_message;
-mod numbering;
+mod line_numbers;
+mod messages;
+mod numbers;
 mod oddities;
 mod path;
 mod place;
 mod planned;
 mod range;
-mod refusing;
-mod retelling;
-mod speaking;
-mod spelling;
+mod refusals;
+mod reports;
 mod steps;
 mod stranger;
-mod telling;
+mod texts;
 
 pub use advice::{message_of, plan_words};
 pub use entry_forms::ENTRIES;
 pub use line_message::line_of;
-pub use numbering::{Form, number_in};
+pub use line_numbers::{Form, number_in};
+pub use messages::{
+    write_fault, write_plan_fault, write_script_fault, write_stranger, write_there, write_unopened,
+};
 pub use path::Path;
 pub use place::Place;
 pub use planned::Planned;
 pub use range::{RangeFault, beyond, crossed};
-pub use refusing::{bail_line, line_of_plan, reason_line};
+pub use refusals::{bail_line, line_of_plan, reason_line};
 pub use steps::Steps;
 pub use stranger::Stranger;
-pub use telling::{
-    write_fault, write_plan_fault, write_script_fault, write_stranger, write_there, write_unopened,
-};

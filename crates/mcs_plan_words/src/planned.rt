@@ -5,11 +5,11 @@ ghost use Rattle.mcs_plan_words.specs.Alignment.{HasLinesOf};
 ghost use Rattle.mcs_plan_words.specs.Scripts.{IsScriptOfPlan};
 
 use crate::alignment::has_lines_of;
-use crate::numbering::{Form, last_line};
-use crate::retelling::Reworded;
-use crate::speaking::{Voice, step_texts};
-use crate::spelling::{Spelling, hexadecimals};
+use crate::line_numbers::{Form, last_line};
+use crate::numbers::{Spelling, hexadecimals};
+use crate::reports::Reworded;
 use crate::stranger::Stranger;
+use crate::texts::{Voice, step_texts};
 use mcs_plan_compile::Script;
 use mcs_plan_validate::{CompileFault, Compiled, Loaded, Numbered, align_questions, load};
 use std::alloc::{AllocError, Global};

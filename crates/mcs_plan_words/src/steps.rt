@@ -1,5 +1,5 @@
 //! The steps of a script that took effect, and which of them stand between two lines of its file.
-use crate::numbering::number_in;
+use crate::line_numbers::number_in;
 use mcs_lab_check::{Judge, LabFault, Labels, Last, LineResult, TakesLines, take_lines};
 use mcs_sim::Source;
 use std::alloc::Global;

@@ -7,16 +7,16 @@ use Rattle.mcs_trace.specs.Output.{Moves, Puts, kept}
 use Rattle.mcs_trace.proofs.Outputs.{Puts-then, Puts-text}
 use Rattle.mcs_phases.specs.declared.fault.SimFault.{SimFault}
 use Rattle.mcs_phases.specs.declared.fault.SimFault.TheVariants as fault
-use Rattle.mcs_sim.specs.declared.writing.Written.{Written}
+use Rattle.mcs_sim.specs.declared.trace.Written.{Written}
 use Rattle.mcs_sim.specs.Trace.{IsLonger, IsWrittenBy, trace_of, unwritten_of}
 use Rattle.mcs_sim.specs.Runs.{Ends, TellsMore, WritesMore, HasFailed, answer_with}
-use Rattle.mcs_phases.specs.Going.{Going, at_line, no_line, fed, IsFairBook, TakesPiece}
-use Rattle.mcs_sim.proofs.GoingLaws.{fed-append}
-use Rattle.mcs_sim.proofs.GoingRuns.{ends-by, ends-write, fault-of-piece}
-use Rattle.mcs_sim.proofs.GoingBooks.{written-more}
-use Rattle.mcs_sim.proofs.GoingTakes.{answer-err, answer-ok}
+use Rattle.mcs_phases.specs.Feeds.{FeedState, at_line, no_line, fed, IsFairBook, TakesPiece}
+use Rattle.mcs_sim.proofs.FeedLaws.{fed-append}
+use Rattle.mcs_sim.proofs.FeedRuns.{ends-by, ends-write, fault-of-piece}
+use Rattle.mcs_sim.proofs.FeedBooks.{written-more}
+use Rattle.mcs_sim.proofs.FeedTakes.{answer-err, answer-ok}
 use Rattle.mcs_sim.proofs.TraceLaws.{puts_nothing, puts_after}
-use Rattle.mcs_sim.proofs.GoingWeights.{weight, IsWithin, HasCome, fed-come}
+use Rattle.mcs_sim.proofs.FeedWeights.{weight, IsWithin, HasCome, fed-come}
 
 -- what was put by and by is the trace so far
 pub tells-on : {W : Type 0} (f : W → Option (List ℕ)) (s t v : Sink W) (j k : Option Book) → Puts f s t (trace_of j) → TellsMore f t v j k → Puts f s v (trace_of k)
@@ -33,11 +33,11 @@ appends-out f a s t text same none puts whole empty =
     subst (Appends (f a.writer) (f t.writer)) (sym (moves.split ∙ ap (λ (l : List ℕ). moves.sent ++ l) ((puts.whole whole).1 ∙ empty) ∙ append-nil moves.sent)) moves.grown
 
 -- what a piece adds to the trace was put
-pub tells-longer : {W : Type 0} (f : W → Option (List ℕ)) (written : Written) (g h i : Going) (s t : Sink W) → g ≡ h → IsWrittenBy written g.course.stands.book → IsLonger g.course.stands.book i.course.stands.book
+pub tells-longer : {W : Type 0} (f : W → Option (List ℕ)) (written : Written) (g h i : FeedState) (s t : Sink W) → g ≡ h → IsWrittenBy written g.course.stands.book → IsLonger g.course.stands.book i.course.stands.book
     → Puts f s t (unwritten_of written i.course.stands.book) → TellsMore f s t h.course.stands.book i.course.stands.book
 tells-longer f written g h i s t same is longer puts =
     let more = written-more written g.course.stands.book i.course.stands.book is longer in
-    subst (λ (g : Going). TellsMore f s t g.course.stands.book i.course.stands.book) same (unwritten_of written i.course.stands.book, more, puts)
+    subst (λ (g : FeedState). TellsMore f s t g.course.stands.book i.course.stands.book) same (unwritten_of written i.course.stands.book, more, puts)
 
 -- what was put of a book and then of a longer one
 pub tells-then : {W : Type 0} (f : W → Option (List ℕ)) (s t v : Sink W) (j k l : Option Book) → TellsMore f s t j k → TellsMore f t v k l → TellsMore f s v j l
@@ -74,26 +74,26 @@ answer-well true o u is = absurd cc
 answer-well false o u is = (refl, answer-ok o u is)
 
 -- a piece goes on where the one before ended
-pub piece-on : (g : Going) (text piece : List ℕ) (h : Going) → g ≡ fed (at_line no_line) text → 0 < length piece → TakesPiece g piece h → h.course.fault ≡ None → h ≡ fed (at_line no_line) (text ++ piece)
+pub piece-on : (g : FeedState) (text piece : List ℕ) (h : FeedState) → g ≡ fed (at_line no_line) text → 0 < length piece → TakesPiece g piece h → h.course.fault ≡ None → h ≡ fed (at_line no_line) (text ++ piece)
 piece-on g text [] h is some takes goes = absurd (omega (arith, some))
-piece-on g text (b ∷ bs) h is some (inl takes) goes = takes ∙ ap (λ (g : Going). fed g (b ∷ bs)) is ∙ sym (fed-append (at_line no_line) text (b ∷ bs))
-piece-on g text (b ∷ bs) h is some (inr takes) goes = absurd (let other : Some fault.OutOfMemory ≡ None = ap (λ (g : Going). g.course.fault) (sym takes.stopped) ∙ goes in cc)
+piece-on g text (b ∷ bs) h is some (inl takes) goes = takes ∙ ap (λ (g : FeedState). fed g (b ∷ bs)) is ∙ sym (fed-append (at_line no_line) text (b ∷ bs))
+piece-on g text (b ∷ bs) h is some (inr takes) goes = absurd (let other : Some fault.OutOfMemory ≡ None = ap (λ (g : FeedState). g.course.fault) (sym takes.stopped) ∙ goes in cc)
 
 -- it comes nearer to the end
-pub piece-nearer : (g : Going) (text piece : List ℕ) (h : Going) → g ≡ fed (at_line no_line) text → g.course.fault ≡ None → 0 < length piece → TakesPiece g piece h → h.course.fault ≡ None
+pub piece-nearer : (g : FeedState) (text piece : List ℕ) (h : FeedState) → g ≡ fed (at_line no_line) text → g.course.fault ≡ None → 0 < length piece → TakesPiece g piece h → h.course.fault ≡ None
     → (weight g < weight h) × (weight h ≤ 8194004096)
 unfolding fed
 piece-nearer g text piece h is live some takes goes =
     let there = piece-on g text piece h is some takes goes in
-    let before = fed-come text (at_line no_line) (record { few = omega arith; short = omega arith }) refl (ap (λ (g : Going). g.course.fault) (sym is) ∙ live) in
-    let same : fed g piece ≡ h = ap (λ (g : Going). fed g piece) is ∙ sym (fed-append (at_line no_line) text piece) ∙ sym there in
+    let before = fed-come text (at_line no_line) (record { few = omega arith; short = omega arith }) refl (ap (λ (g : FeedState). g.course.fault) (sym is) ∙ live) in
+    let same : fed g piece ≡ h = ap (λ (g : FeedState). fed g piece) is ∙ sym (fed-append (at_line no_line) text piece) ∙ sym there in
     let within = subst IsWithin (sym is) before.within in
-    let come = fed-come piece g within live (ap (λ (g : Going). g.course.fault) same ∙ goes) in
+    let come = fed-come piece g within live (ap (λ (g : FeedState). g.course.fault) same ∙ goes) in
     let last = subst (HasCome g (length piece)) same come in
     (omega (arith, some, last.further), omega (arith, last.within.few, last.within.short))
 
 -- a piece ended the run
-pub ends-piece : {W : Type 0} (f : W → Option (List ℕ)) (a s t v : Sink W) (left left' : Option (List ℕ)) (g : Going) (text piece : List ℕ) (h : Going) (e : SimFault)
+pub ends-piece : {W : Type 0} (f : W → Option (List ℕ)) (a s t v : Sink W) (left left' : Option (List ℕ)) (g : FeedState) (text piece : List ℕ) (h : FeedState) (e : SimFault)
     → s.writer ≡ a.writer → kept s ≡ [] → g ≡ fed (at_line no_line) text → g.course.fault ≡ None → length piece ≤ 4096 → Consumes left left' (text ++ piece) → (piece ≡ [] → IsAtEnd left') → TakesPiece g piece h
     → Puts f s t (trace_of g.course.stands.book) → TellsMore f t v g.course.stands.book h.course.stands.book → kept v ≡ [] → IsFairBook h.course.stands.book
     → Err e ≡ answer_with v.is_broken h.course.fault → Ends e left left' (f a.writer) (f v.writer)
@@ -112,10 +112,10 @@ ends-piece f a s t v left left' g text piece h e same none is goes few read end 
         ends-by e left left' (f a.writer) (f v.writer) g text piece h all.rest is goes few read end takes (moves-out f a s v (trace_of h.course.stands.book) same none all) (appends-out f a s v (trace_of h.course.stands.book) same none all is_broken empty) fair ends
 
 -- a piece answers no read fault, and a write fault only where the sink broke
-pub never-read : (broken : Bool) (g : Going) (text piece : List ℕ) (h : Going) → g ≡ fed (at_line no_line) text → TakesPiece g piece h → Err fault.Read ≡ answer_with broken h.course.fault → ⊥
+pub never-read : (broken : Bool) (g : FeedState) (text piece : List ℕ) (h : FeedState) → g ≡ fed (at_line no_line) text → TakesPiece g piece h → Err fault.Read ≡ answer_with broken h.course.fault → ⊥
 never-read true g text piece h is takes answer = let it : fault.Read ≡ fault.Write = cc in cc
 never-read false g text piece h is takes answer = elim (fault-of-piece g text piece h fault.Read is takes (answer-err h.course.fault fault.Read answer)) [ inl it ↦ cc | inr of ↦ of ]
 
-pub only-broken : (broken : Bool) (g : Going) (text piece : List ℕ) (h : Going) → g ≡ fed (at_line no_line) text → TakesPiece g piece h → Err fault.Write ≡ answer_with broken h.course.fault → broken ≡ true
+pub only-broken : (broken : Bool) (g : FeedState) (text piece : List ℕ) (h : FeedState) → g ≡ fed (at_line no_line) text → TakesPiece g piece h → Err fault.Write ≡ answer_with broken h.course.fault → broken ≡ true
 only-broken true g text piece h is takes answer = refl
 only-broken false g text piece h is takes answer = absurd (elim (fault-of-piece g text piece h fault.Write is takes (answer-err h.course.fault fault.Write answer)) [ inl it ↦ cc | inr of ↦ of ])

@@ -11,7 +11,7 @@ use Rattle.mcs_text.specs.Reading.{onto_first, lines_of}
 use Rattle.mcs_phases.specs.declared.fault.SimFault.{SimFault}
 use Rattle.mcs_phases.specs.declared.fault.SimFault.TheVariants as fault
 use Rattle.mcs_phases.specs.Script.{Script, of_users, says_something, read_line, ending, script_from, script_of, users}
-use Rattle.mcs_phases.specs.Going.{HasNoNewline}
+use Rattle.mcs_phases.specs.Feeds.{HasNoNewline}
 use Rattle.mcs_sim.specs.Users.{Users, no_users, IsKept, read_after, AreLines, TakesUsers, IsFaultIn, IsFaultOfLine, read_to_end, IsFaultAtEnd, AreFaultless, GoesOn, UsersStopSoon}
 use Rattle.mcs_sim.specs.Running.{Reads, EndsUsers}
 use Rattle.mcs_sim.proofs.ScriptLaws.{script_from-ok, script_from-err}

@@ -7,7 +7,7 @@ use Rattle.mcs_text.specs.declared.fault.LineFault.{LineFault}
 use Rattle.mcs_phases.specs.declared.fault.SimFault.TheVariants as fault
 use Rattle.mcs_phases.specs.Script.{Script}
 use Rattle.mcs_sim.specs.Runs.{IsFullAt, IsRoomy}
-use Rattle.mcs_phases.specs.Going.{BootOrBook, Course, not_begun}
+use Rattle.mcs_phases.specs.Feeds.{BootOrBook, Course, not_begun}
 
 -- what is after the lines of a script
 abbrev pub boot_or_book_of : Option Boot → List Step → BootOrBook

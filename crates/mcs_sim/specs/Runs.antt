@@ -13,7 +13,7 @@ use Rattle.mcs_phases.specs.declared.fault.SimFault.{SimFault}
 use Rattle.mcs_phases.specs.declared.fault.SimFault.TheVariants as fault
 use Rattle.mcs_sim.specs.Trace.{trace, trace_of}
 use Rattle.mcs_phases.specs.Script.{Script, steps}
-use Rattle.mcs_phases.specs.Going.{fed, at_line, no_line, answer_of}
+use Rattle.mcs_phases.specs.Feeds.{fed, at_line, no_line, answer_of}
 use Rattle.mcs_source.specs.declared.source.Source.{Source}
 
 -- the trace of the book that the steps make after a boot

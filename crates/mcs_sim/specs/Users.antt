@@ -8,7 +8,7 @@ use Rattle.mcs_phases.specs.declared.fault.SimFault.{SimFault}
 use Rattle.mcs_source.specs.declared.source.TheConstants.{PIECE}
 use Rattle.mcs_phases.specs.declared.fault.SimFault.TheVariants as fault
 use Rattle.mcs_phases.specs.Script.{Script, no_script, of_users, script_from, users}
-use Rattle.mcs_phases.specs.Going.{HasNoNewline}
+use Rattle.mcs_phases.specs.Feeds.{HasNoNewline}
 
 -- what the lines that have ended said, where this many cores may be asked for, how many they are,
 -- and the bytes of the line that has not ended

@@ -5,7 +5,7 @@ ghost use Rattle.mcs_book.specs.Boots.{Boot, IsFaultless};
 ghost use Rattle.mcs_book.specs.History.{AllInRange, IsLegal, book_of};
 ghost use Rattle.mcs_sim.specs.Input.{IsTooLong};
 ghost use Rattle.mcs_phases.specs.Script.{steps, users};
-ghost use Rattle.mcs_phases.specs.Going.{Going, at_line, ended, fed, no_line};
+ghost use Rattle.mcs_phases.specs.Feeds.{FeedState, at_line, ended, fed, no_line};
 ghost use Rattle.mcs_sim.specs.Outcomes.{ComesOfScript};
 
 /// Law: the book of steps after a boot is legal, if each line of the boot passes all checks and the
@@ -29,7 +29,7 @@ pub fn too_long_stands()
 /// Law: feeding a text and then another gives what feeding both together gives, so the cuts of a
 /// script do not matter.
 pub fn fed_in_pieces()
-    ghost at: { Going × List ℕ × List ℕ }
+    ghost at: { FeedState × List ℕ × List ℕ }
     ensures { fed at.0 (at.1 ++ at.2) ≡ fed (fed at.0 at.1) at.2 }
 {}
 

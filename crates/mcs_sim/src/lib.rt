@@ -15,20 +15,20 @@
 //! yet. `laws` has what holds of all texts, however they are cut.
 #![tactic(auto)]
 
-mod feeding;
+mod feed;
 mod laws;
-mod replaying;
-mod running;
+mod replay;
+mod run;
+mod trace;
 mod users;
-mod writing;
 
-pub use feeding::ReplayRun;
+pub use feed::ReplayRun;
 pub use laws::{fed_as_read, fed_in_pieces, replayed_legal, too_long_stands};
 pub use mcs_cores::{Gate, Open};
 pub use mcs_phases::SimFault;
 pub use mcs_source::{ReadFault, Source};
 pub use mcs_trace::Sink;
-pub use replaying::{TracedRun, simulate};
-pub use running::run_text;
+pub use replay::{TracedRun, simulate};
+pub use run::run_text;
+pub use trace::{put_boot, trace};
 pub use users::UserLines;
-pub use writing::{put_boot, trace};

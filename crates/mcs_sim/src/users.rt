@@ -1,6 +1,6 @@
 //! Reads the lists of users from text that comes in pieces.
 ghost use Rattle.std.specs.Prelude.{◌≡◌, ◌≤◌, ◌∷◌, [], ◌++◌, IfOk, IfErr, OnOk, Ok, Some, None};
-ghost use Rattle.mcs_phases.specs.Going.{HasNoNewline};
+ghost use Rattle.mcs_phases.specs.Feeds.{HasNoNewline};
 ghost use Rattle.mcs_phases.specs.Script.{of_users, read_line};
 ghost use Rattle.mcs_sim.specs.Users.{TakesUsers, IsFaultIn, IsFaultOfLine, IsFaultAtEnd, IsKept, no_users, read_to_end};
 

@@ -12,8 +12,8 @@ use Rattle.mcs_book.specs.Table.{wakes}
 use Rattle.mcs_book.specs.Sound.{Allowed, IsThere}
 use Rattle.mcs_types.proofs.Ids.{same-self}
 use Rattle.mcs_state.specs.Changing.{record_of}
-use Rattle.mcs_state.specs.declared.changing.Change.{Change}
-use Rattle.mcs_state.specs.declared.changing.Change.TheVariants as change
+use Rattle.mcs_state.specs.declared.changes.Change.{Change}
+use Rattle.mcs_state.specs.declared.changes.Change.TheVariants as change
 use Rattle.mcs_state.specs.Entering.{IsEntering, IsActing, OpenStand, OnlyBoundWait}
 
 -- who was woken acts

@@ -3,8 +3,8 @@ use Rattle.mcs_types.specs.declared.record.Rec.{Rec}
 use Rattle.mcs_types.specs.declared.record.Rec.TheVariants as rec
 use Rattle.mcs_types.specs.declared.entry.Answer.TheVariants.{Done}
 use Rattle.mcs_book.specs.Pieces.{Act, say, answers}
-use Rattle.mcs_state.specs.declared.changing.Change.{Change}
-use Rattle.mcs_state.specs.declared.changing.Change.TheVariants.{Holds, Homes, Ties, Sets}
+use Rattle.mcs_state.specs.declared.changes.Change.{Change}
+use Rattle.mcs_state.specs.declared.changes.Change.TheVariants.{Holds, Homes, Ties, Sets}
 
 -- the record of a change
 abbrev pub record_of : Change → Rec

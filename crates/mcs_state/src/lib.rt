@@ -16,20 +16,20 @@
 //! are the open messages and the threads of a queue.
 #![tactic(auto)]
 
-mod attending;
-mod changing;
+mod changes;
 mod checks;
+mod contexts;
 mod letters;
 mod queued;
-mod returning;
+mod receivers;
 mod state;
-mod waking;
+mod wakeup;
 
-pub use changing::{Change, change_awake};
+pub use changes::{Change, change_awake};
 pub use checks::{find_object, object_at, of_kind, with_read, with_write};
+pub use contexts::{give_back, stand};
 pub use mcs_replies::Chain;
 pub use mcs_threads::ThreadRow;
 pub use queued::Queued;
-pub use returning::{give_back, stand};
 pub use state::State;
-pub use waking::wake;
+pub use wakeup::wake;

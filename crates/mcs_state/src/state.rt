@@ -9,17 +9,16 @@ ghost use Rattle.mcs_book.specs.Sound.{Allowed};
 ghost use Rattle.mcs_state.specs.Now.{so_far, adds, IsNumberOf};
 ghost use Rattle.mcs_state.specs.Tables.{HAND};
 
-mod asking;
-mod closing;
-mod handing;
-mod making;
-mod notifying;
-mod picking;
+mod creation;
+mod debts;
+mod handover;
+mod notifications;
+mod picks;
 mod queries;
-mod replying;
+mod removal;
 
-use crate::attending::{attend, attended};
 use crate::letters::{Letters, OpenLetter, deliver};
+use crate::receivers::{attend, attended};
 use mcs_book::Book;
 use mcs_contexts::Contexts;
 use mcs_notifications::Notifications;
@@ -113,7 +112,13 @@ impl<W: Waiting> Model for State<W> {
           threads = s.threads;
           letters = s.letters;
           contexts = s.contexts;
-          queues = record { line = W.line s.queues; queue = W.queue s.queues; has = W.has s.queues; made = W.given s.queues; there = W.there s.queues };
+          queues = record {
+            line = W.line s.queues;
+            queue = W.queue s.queues;
+            has = W.has s.queues;
+            made = W.given s.queues;
+            there = W.there s.queues;
+          };
           replies = s.replies;
           notifications = s.notifications;
           slots = s.slots;

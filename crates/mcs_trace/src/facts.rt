@@ -8,7 +8,7 @@ ghost use Rattle.mcs_text.specs.Spelling.{then_text, token_text};
 ghost use Rattle.mcs_text.specs.Table.{form, how_key, end_key, joins_form, form_text, fact_text, record_text};
 
 use crate::line::Line;
-use crate::reading::Wording;
+use crate::read_lines::Wording;
 use crate::rooms::{LINE, WORD};
 use mcs_text::{Key, Token};
 use mcs_types::{Cap, Ending, MESSAGE_WORDS, Mode, ObjId, Queue, Rec, SendMode};

@@ -7,22 +7,22 @@ mod boot;
 mod entries;
 mod facts;
 mod line;
+mod line_text;
 mod numbers;
 mod put;
-mod reading;
+mod read_lines;
 mod records;
 mod rooms;
 mod sink;
-mod spelling;
 mod steps;
 mod words;
 
 pub use line::Line;
+pub use line_text::{spell, spell_answer, spell_record, spell_step};
 pub use put::{
     put_boot_line, put_cores, put_kept_answer, put_kept_record, put_kept_step, put_read_record,
     put_spelled,
 };
-pub use reading::ReadStep;
+pub use read_lines::ReadStep;
 pub use rooms::LINE;
 pub use sink::{Sink, WriteFault};
-pub use spelling::{spell, spell_answer, spell_record, spell_step};

@@ -6,7 +6,7 @@ ghost use Rattle.mcs_trace.specs.Reading.{IsMessageText, message_text};
 ghost use Rattle.mcs_text.specs.Spelling.{pair, four, eight, then_text};
 
 use crate::line::Line;
-use crate::reading::Wording;
+use crate::read_lines::Wording;
 use crate::rooms::{COUNT, MESSAGE, NUMBER};
 use itoa::Buffer;
 use mcs_types::MESSAGE_WORDS;

@@ -3,7 +3,7 @@ ghost use Rattle.std.specs.Prelude.{◌≡◌, ◌<◌, ◌∷◌, [], ◌++◌,
 ghost use Rattle.mcs_text.specs.Table.{cores_text, boot_text, step_text, answer_text, record_text};
 ghost use Rattle.mcs_trace.specs.Output.{Puts};
 
-use crate::reading::ReadStep;
+use crate::read_lines::ReadStep;
 use crate::records::{write_kept, write_kept_answer};
 use crate::rooms::LINE;
 use crate::sink::Sink;

@@ -7,7 +7,7 @@ ghost use Rattle.mcs_packing.specs.Packing.{Fits, IsMessageAt, IsOfBond, IsOfDeb
 ghost use Rattle.mcs_packing.specs.Heads.{AnswerFits, answer_of};
 
 use crate::line::Line;
-use crate::reading::{ReadStep, Wording};
+use crate::read_lines::{ReadStep, Wording};
 use crate::rooms::LINE;
 use mcs_packing::{
     AnswerForm, KeptStep, Packed, guarded, id_of, plain, queue_of, serial_behind, thread_id,

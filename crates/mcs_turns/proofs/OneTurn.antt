@@ -6,7 +6,7 @@ use Rattle.std.proofs.lemmas.List.Elements.{All-contains}
 use Rattle.mcs_types.specs.declared.id.CoreId.{CoreId}
 use Rattle.mcs_types.specs.declared.entry.Entry.{Entry}
 use Rattle.mcs_turns.specs.declared.position.Pick.{Pick}
-use Rattle.mcs_turns.specs.Turns.{User, Going, ArePicksOf, ArePicks, AreAscending, IsTurn, entered, given}
+use Rattle.mcs_turns.specs.Turns.{User, RunState, ArePicksOf, ArePicks, AreAscending, IsTurn, entered, given}
 use Rattle.mcs_turns.proofs.Among.{none-in, first-in, later-in, split-in}
 
 -- two elements in one place are one
@@ -65,15 +65,15 @@ one-list (k ∷ ks) (j ∷ js) up also f g =
         let high = before k ks up j d in
         absurd (omega (arith, low, high))
 
-one-pick : (users : List User) (g : Going) (core : CoreId) (ks js : List Pick) → ArePicksOf users g core ks → ArePicksOf users g core js → ks ≡ js
+one-pick : (users : List User) (g : RunState) (core : CoreId) (ks js : List Pick) → ArePicksOf users g core ks → ArePicksOf users g core js → ks ≡ js
 one-pick users g core ks js a b = one-list ks js a.ascending b.ascending (λ k c. b.all k (a.picked k c)) (λ k c. a.all k (b.picked k c))
 
-pub one-picks : (users : List User) (g : Going) (ks js : List (List Pick)) → ArePicks users g ks → ArePicks users g js → ks ≡ js
+pub one-picks : (users : List User) (g : RunState) (ks js : List (List Pick)) → ArePicks users g ks → ArePicks users g js → ks ≡ js
 one-picks users g ks js a b = same-lists ks js (a.cores ∙ sym b.cores) (λ i k j p q.
     let core : CoreId = record { 0 = i } in
     one-pick users g core k j (a.each core k p) (b.each core j q))
 
-pub one-turn : (users : List User) (core : CoreId) (k : Pick) (g h i : Going) → IsTurn users core k g h → IsTurn users core k g i → h ≡ i
+pub one-turn : (users : List User) (core : CoreId) (k : Pick) (g h i : RunState) → IsTurn users core k g h → IsTurn users core k g i → h ≡ i
 one-turn users core k g h i a b =
     let user : a.user ≡ b.user = one-at users k.user a.user b.user a.is_user b.is_user in
     let entry : a.entry ≡ b.entry = one-at b.user.entries k.number a.entry b.entry (subst (λ (u : User). slice_get u.entries k.number ≡ Some a.entry) user a.is_entry) b.is_entry in

@@ -49,7 +49,7 @@ is_program [] = false
 is_program (o ∷ os) = true
 
 -- how far a run is: its book, the position of each user, and the stale picks of each core
-pub record Going : Type 0 where
+pub record RunState : Type 0 where
   pub book : Book
   pub places : List Position
   pub stale : List (List Pick)
@@ -59,7 +59,7 @@ abbrev pub due : Log → User → Position → ℕ
 due R u p = due_by (status_of R u.thread) p
 
 -- the user of the number i has an entry left, and its thread may enter on the core
-pub record CanGive (users : List User) (g : Going) (core : CoreId) (i : ℕ) (u : User) (p : Position) : Type 0 where
+pub record CanGive (users : List User) (g : RunState) (core : CoreId) (i : ℕ) (u : User) (p : Position) : Type 0 where
   pub user : slice_get users i ≡ Some u
   pub place : slice_get g.places i ≡ Some p
   pub left : due (log_of g.book) u p < length u.entries
@@ -73,7 +73,7 @@ MayPrecede schedule.Any R t u = Unit {0}
 
 -- a pick is the due entry of a user who can give one, and whose thread the core may pick beside
 -- those of all others who can
-pub record CanBePicked (users : List User) (g : Going) (core : CoreId) (k : Pick) : Type 0 where
+pub record CanBePicked (users : List User) (g : RunState) (core : CoreId) (k : Pick) : Type 0 where
   pub user : User
   pub place : Position
   pub can : CanGive users g core k.user user place
@@ -85,18 +85,18 @@ abbrev pub AreAscending : List Pick → Type 0
 AreAscending ks = AllPairs (λ (k j : Pick). k.user < j.user) ks
 
 -- all that a core may pick, in order
-pub record ArePicksOf (users : List User) (g : Going) (core : CoreId) (ks : List Pick) : Type 0 where
+pub record ArePicksOf (users : List User) (g : RunState) (core : CoreId) (ks : List Pick) : Type 0 where
   pub picked : (k : Pick) → Contains ks k → CanBePicked users g core k
   pub all : (k : Pick) → CanBePicked users g core k → Contains ks k
   pub ascending : AreAscending ks
 
 -- the picks of all cores
-pub record ArePicks (users : List User) (g : Going) (picks : List (List Pick)) : Type 0 where
+pub record ArePicks (users : List User) (g : RunState) (picks : List (List Pick)) : Type 0 where
   pub cores : length picks ≡ g.book.boot.cores
   pub each : (core : CoreId) (ks : List Pick) → slice_get picks core.0 ≡ Some ks → ArePicksOf users g core ks
 
 -- a pick is a stale pick of the core
-pub record IsStale (g : Going) (core : CoreId) (k : Pick) : Type 0 where
+pub record IsStale (g : RunState) (core : CoreId) (k : Pick) : Type 0 where
   pub picks : List Pick
   pub stale : slice_get g.stale core.0 ≡ Some picks
   pub among : Contains picks k
@@ -179,21 +179,21 @@ all_answered rs own i users [] = []
 all_answered rs own i users (p ∷ ps) = place_answered rs own users i p ∷ all_answered rs own (i + 1) users ps
 
 -- the words that the user of a number keeps
-abbrev pub saved_at : Going → ℕ → Saved
+abbrev pub saved_at : RunState → ℕ → Saved
 saved_at g i = elim (slice_get g.places i) [ None ↦ nothing_saved | Some p ↦ p.saved ]
 
 -- an entry of a user as it gives it now
-abbrev pub given : Going → User → Pick → Entry → Entry
+abbrev pub given : RunState → User → Pick → Entry → Entry
 given g u k e = filled u.fills k.number (saved_at g k.user) e
 
 -- the positions after an entry of a user with this outcome
-abbrev pub places_after : List User → Outcome → User → Pick → Going → List Position
+abbrev pub places_after : List User → Outcome → User → Pick → RunState → List Position
 places_after users o u k g =
     all_answered (reached_from None o.records) k.user 0 users
     (put_at k.user (position_after u k.number (saved_at g k.user) o.answer) g.places)
 
 -- how far a run is after an entry of a user on a core, where the cores had these picks
-abbrev pub entered : List User → List (List Pick) → User → Step → Pick → Going → Going
+abbrev pub entered : List User → List (List Pick) → User → Step → Pick → RunState → RunState
 entered users picks u s k g = record {
   book = record g.book { lines = line_for s (outcome g.book s) ∷ g.book.lines };
   places = places_after users (outcome g.book s) u k g;
@@ -201,7 +201,7 @@ entered users picks u s k g = record {
 }
 
 -- one turn: a core enters one of its picks, or a stale one of its own
-pub record IsTurn (users : List User) (core : CoreId) (k : Pick) (g h : Going) : Type 0 where
+pub record IsTurn (users : List User) (core : CoreId) (k : Pick) (g h : RunState) : Type 0 where
   pub user : User
   pub entry : Entry
   pub picks : List (List Pick)
@@ -213,7 +213,7 @@ pub record IsTurn (users : List User) (core : CoreId) (k : Pick) (g h : Going) :
   pub after : h ≡ entered users picks user (record { core = core; thread = user.thread; entry = given g user k entry }) k g
 
 -- the beginning of a run
-abbrev pub beginning : List User → Boot → Going
+abbrev pub beginning : List User → Boot → RunState
 beginning users boot = record {
   book = record { boot = boot; lines = [] };
   places = map started users;
@@ -221,19 +221,19 @@ beginning users boot = record {
 }
 
 -- some core makes a turn
-pub record Follows (users : List User) (g h : Going) : Type 0 where
+pub record Follows (users : List User) (g h : RunState) : Type 0 where
   pub core : CoreId
   pub pick : Pick
   pub turn : IsTurn users core pick g h
 
 -- a run of n turns after a boot
-abbrev pub IsRun : List User → Boot → ℕ → Going → Type 0
+abbrev pub IsRun : List User → Boot → ℕ → RunState → Type 0
 IsRun users boot zero g = g ≡ beginning users boot
-IsRun users boot (suc n) h = (g : Going) × (IsRun users boot n g × Follows users g h)
+IsRun users boot (suc n) h = (g : RunState) × (IsRun users boot n g × Follows users g h)
 
 -- no turn is possible
-abbrev pub IsOver : List User → Going → Type 0
-IsOver users g = (h : Going) → Follows users g h → ⊥
+abbrev pub IsOver : List User → RunState → Type 0
+IsOver users g = (h : RunState) → Follows users g h → ⊥
 
 -- the numbers of all entries are in their ranges
 abbrev pub AreInRange : List User → Type 0

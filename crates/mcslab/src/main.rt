@@ -11,29 +11,31 @@
 #![tactic(auto)]
 
 mod command_line;
-mod compiling;
-mod completing;
-mod drawing;
-mod exploring;
+mod compile;
+mod completions;
+mod draw;
+mod explore;
 mod folder;
-mod graphing;
+mod forms;
+mod graph;
+mod init;
 mod input;
 mod manual;
-mod planning;
-mod renaming;
-mod showing;
-mod starting;
-mod telling;
-mod walking;
+mod messages;
+mod plan;
+mod trace_names;
+mod walk;
 
 use clap::Error;
 use clap::error::ErrorKind;
 use command_line::{Command, Request, requested};
-use completing::write_completions;
-use drawing::{Drawn, Said, draw};
-use exploring::{Sought, explore};
+use completions::write_completions;
+use draw::{Drawn, Said, draw};
+use explore::{Sought, explore};
 use folder::make_folder;
-use graphing::graph;
+use forms::show_forms;
+use graph::graph;
+use init::begin;
 use input::{Kept, open, tell_unopened};
 use manual::write_manual;
 use mcs_command_line::arguments;
@@ -42,15 +44,13 @@ use mcs_lab_check::{LabFault, Outcome, check};
 use mcs_lab_inspect::{explain, show_state, write_json};
 use mcs_plan_words::{Path, crossed, line_of};
 use mcs_sim::{SimFault, Source};
-use planning::do_plan;
-use renaming::tell_trace;
-use showing::show_forms;
-use starting::begin;
+use messages::tell_script_fault;
+use plan::do_plan;
 use std::alloc::{AllocError, Global};
 use std::io::{self, BufWriter, Read, Write};
 use std::process::ExitCode;
-use telling::tell_script_fault;
-use walking::walk;
+use trace_names::tell_trace;
+use walk::walk;
 
 /// Returns the exit code for an outcome.
 fn ended(outcome: Outcome) -> ExitCode {
@@ -168,7 +168,7 @@ fn described(rt: &HostRuntime, made: Result<ExitCode, Error>) -> ExitCode {
 /// Performs a request, with its file or the standard input.
 fn carry_out(rt: &HostRuntime, request: &Request<'_>) -> ExitCode {
     match request.command {
-        Command::Compile(made) => return compiling::compile_plan(rt, request.file, made),
+        Command::Compile(made) => return compile::compile_plan(rt, request.file, made),
         Command::Names => return tell_trace(rt, request.file),
         Command::Init(begun) => return begin(rt, begun),
         Command::Forms(forms) => return show_forms(rt, forms),

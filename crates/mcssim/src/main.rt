@@ -4,17 +4,17 @@
 #![tactic(auto)]
 
 mod input;
-mod telling;
+mod messages;
 
 use input::open;
 use mcs_command_line::{Options, Task, arguments, options};
 use mcs_sim::{Open, SimFault, Sink, Source, run_text, simulate};
+use messages::{explain, tell, tell_answer, tell_unopened};
 use std::alloc::{AllocError, AllocGlobal};
 use std::io::{self, Print, Read};
 use std::process::ExitCode;
 use std::sync::Wait;
 use std::thread::Threads;
-use telling::{explain, tell, tell_answer, tell_unopened};
 
 fn carry_out<R: AllocGlobal + Print + Threads + Wait + Sync, I: Read + Drop>(
     rt: &R,

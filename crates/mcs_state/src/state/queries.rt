@@ -1,12 +1,13 @@
-//! Questions to the tables: each returns what its definition says of all records so far.
-ghost use Rattle.std.specs.Prelude.{◌≡◌, ◌≤◌, true, nat_lt, IfSome, Some, option_copied, length};
+//! Questions to the tables, also about missing objects: each returns what its definition says of
+//! all records so far.
+ghost use Rattle.std.specs.Prelude.{◌≡◌, ◌≤◌, true, nat_lt, IfSome, Some, option_copied, length, option_map};
 ghost use Rattle.mcs_types.specs.Limits.{object_limit};
 ghost use Rattle.mcs_types.specs.declared.id.Kind.{Kind};
 ghost use Rattle.mcs_book.specs.Logs.{counted};
-ghost use Rattle.mcs_book.specs.Objects.{makes_kind, number_of, was_made, form_of};
+ghost use Rattle.mcs_book.specs.Objects.{makes_kind, number_of, was_made, form_of, is_alive};
 ghost use Rattle.mcs_book.specs.Slots.{slot, count_of};
 ghost use Rattle.mcs_book.specs.Threads.{prio_of, maximum_of, mode_of, root_of};
-ghost use Rattle.mcs_book.specs.Queues.{queue_of, reply_with, first_in};
+ghost use Rattle.mcs_book.specs.Queues.{queue_of, reply_with, first_in, queued_in};
 ghost use Rattle.mcs_book.specs.Messages.{next_message, open_of};
 ghost use Rattle.mcs_book.specs.Contexts.{holder_of, context_of};
 ghost use Rattle.mcs_types.specs.Chains.{head_of};
@@ -17,17 +18,22 @@ ghost use Rattle.mcs_book.specs.Lookup.{radix_kept, capability, slot_named};
 ghost use Rattle.mcs_cspace.specs.Spaces.{named_by};
 ghost use Rattle.mcs_book.specs.Sound.{Sound, IsThere};
 ghost use Rattle.mcs_state.specs.Now.{so_far};
-ghost use Rattle.mcs_state.specs.Tables.{HAND, ROOM};
+ghost use Rattle.mcs_state.specs.Tables.{HAND, ROOM, core_said};
 ghost use Rattle.mcs_state.specs.Making.{has_limit};
 ghost use Rattle.mcs_state.specs.Following.{attended};
-ghost use Rattle.mcs_state.specs.Nexts.{next_of};
+ghost use Rattle.mcs_state.specs.Nexts.{next_of, behind};
+ghost use Rattle.mcs_replies.specs.Rest.{rest_of};
+ghost use Rattle.mcs_state.specs.Questions.{priority_of, word_of, named_for, placed_for, root_said};
+ghost use Rattle.mcs_state.specs.Saying.{row_said};
 
 use super::State;
-use crate::attending::attended;
+use crate::queued::Queued;
+use crate::receivers::attended;
 use mcs_cspace::{lookup, lookup_slot, radix_in};
 use mcs_object_queues::Waiting;
+use mcs_replies::Chain;
 use mcs_slots::SlotId;
-use mcs_threads::Block;
+use mcs_threads::{Block, ThreadRow};
 use mcs_types::{
     Cap, CoreId, Kind, Letter, Mail, Mode, OBJECTS, ObjId, Place, Prio, Queue, Refusal, Status,
 };
@@ -308,5 +314,108 @@ impl<W: Waiting> State<W> {
         ensures { named_by result ≡ slot_named (so_far self.now) thread place }
     {
         lookup_slot(&self.slots, self.root(thread), place)
+    }
+
+    /// The threads in a queue, first to last; none if its object does not exist.
+    pub fn queued(&self, queue: Queue) -> Queued<'_, W>
+        ensures { behind result.left (so_far result.state.now) result.at
+            ≡ queued_in (so_far self.now) queue }
+    {
+        self.is_sound();
+        Queued {
+            state: self,
+            at: self.first(queue),
+            left: OBJECTS,
+        }
+    }
+
+    /// The reply objects in the chain of a context, from the top; none if the context does not
+    /// exist (own).
+    pub fn chain(&self, context: ObjId) -> Chain<'_>
+        ensures { rest_of result ≡ chain_of (so_far self.now) context }
+    {
+        self.is_sound();
+        self.replies.chain_of(context)
+    }
+
+    /// Returns whether an object exists: it was made and not closed (own).
+    pub fn is_there(&self, object: ObjId) -> bool
+        ensures { result ≡ is_alive (so_far self.now) object }
+    {
+        self.is_sound();
+        match object.kind {
+            Kind::CNode => self.was_made(object),
+            Kind::Thread => self.threads.get(object).is_some(),
+            Kind::Endpoint => self.queues.is_there(Queue::Senders(object)),
+            Kind::Notification => self.queues.is_there(Queue::Waiters(object)),
+            Kind::Reply => self.replies.is_there(object),
+            Kind::Context => self.contexts.core(object).is_some(),
+        }
+    }
+
+    /// Returns the row of a thread; None if it does not exist (manual: Threads and Execution).
+    pub fn thread(&self, thread: ObjId) -> Option<&ThreadRow>
+        ensures { option_copied result ≡ row_said (so_far self.now) thread }
+    {
+        self.threads.get(thread)
+    }
+
+    /// The priority of a thread; None if it does not exist (manual: Threads and Execution).
+    pub fn priority_of(&self, thread: ObjId) -> Option<Prio>
+        ensures { result ≡ priority_of (so_far self.now) thread }
+    {
+        match self.threads.get(thread) {
+            None => None,
+            Some(row) => Some(row.priority),
+        }
+    }
+
+    /// The pending word of a notification; None if no badge was raised since it was heard last, and
+    /// if the notification does not exist (manual: Notifications).
+    pub fn word(&self, notification: ObjId) -> Option<u64>
+        ensures { result ≡ word_of (so_far self.now) notification }
+    {
+        self.is_sound();
+        self.notifications.word(notification)
+    }
+
+    /// Returns the capability that an address of a thread names; None if the thread does not exist
+    /// (manual: Capability Spaces).
+    pub fn named(&self, thread: ObjId, address: u64) -> Option<Result<Cap, Refusal>>
+        ensures { result ≡ named_for (so_far self.now) thread address }
+    {
+        match self.threads.get(thread) {
+            None => None,
+            Some(row) => Some(lookup(&self.slots, &row.root, address)),
+        }
+    }
+
+    /// The slot that a place of a thread names; None if the thread does not exist (manual:
+    /// Capability Spaces).
+    pub fn placed(&self, thread: ObjId, place: Place) -> Option<Result<SlotId, Refusal>>
+        ensures { option_map (λ r. named_by r) result ≡ placed_for (so_far self.now) thread place }
+    {
+        match self.threads.get(thread) {
+            None => None,
+            Some(row) => Some(lookup_slot(&self.slots, &row.root, place)),
+        }
+    }
+
+    /// The capability to the root of a thread's space; None if the thread does not exist (manual:
+    /// Capability Spaces).
+    pub fn root_of(&self, thread: ObjId) -> Option<Cap>
+        ensures { result ≡ root_said (so_far self.now) thread }
+    {
+        match self.threads.get(thread) {
+            None => None,
+            Some(row) => Some(row.root.again()),
+        }
+    }
+
+    /// The core of a context; None if it does not exist (manual: Threads and Execution).
+    pub fn core_of(&self, context: ObjId) -> Option<CoreId>
+        ensures { result ≡ core_said (so_far self.now) context }
+    {
+        self.contexts.core(context)
     }
 }

@@ -1,5 +1,5 @@
 //! Books, boots and the kernel.
 
-mod asking;
 mod books;
-mod entering;
+mod entries;
+mod queries;

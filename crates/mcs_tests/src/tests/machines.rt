@@ -1,7 +1,7 @@
 //! Machines that run, that settle and that do not, and scripts of users.
 
-mod crossing;
-mod holding;
+mod held_core;
+mod overlap;
 mod runs;
 mod scripts;
-mod settling;
+mod settlement;

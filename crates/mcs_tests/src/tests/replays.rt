@@ -1,8 +1,8 @@
 //! Whole scripts.
 
-mod failing;
+mod failures;
 mod faults;
-mod feeding;
 mod limits;
+mod pieces;
+mod slow_writer;
 mod users;
-mod waiting;

@@ -1,4 +1,4 @@
-use Rattle.mcs_explore_equivalence.proofs.Going.{alike-on}
+use Rattle.mcs_explore_equivalence.proofs.RunState.{alike-on}
 use Rattle.mcs_explore_equivalence.proofs.logs.alike_on.Goals as goal
 
 pub returns : goal.returns

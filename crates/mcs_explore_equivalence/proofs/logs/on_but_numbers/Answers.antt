@@ -1,4 +1,4 @@
-use Rattle.mcs_explore_equivalence.proofs.Going.{but-on}
+use Rattle.mcs_explore_equivalence.proofs.RunState.{but-on}
 use Rattle.mcs_explore_equivalence.proofs.logs.on_but_numbers.Goals as goal
 
 pub returns : goal.returns

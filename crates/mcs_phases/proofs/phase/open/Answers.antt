@@ -2,7 +2,7 @@ use Rattle.std.proofs.Common.{Option, Ok, Err, refl, ap, sym, subst, ◌∙◌}
 use Rattle.std.specs.Prelude.{option_to_list}
 use Rattle.mcs_book.specs.History.{Book}
 use Rattle.mcs_types.specs.declared.entry.Step.{Step}
-use Rattle.mcs_phases.specs.Going.{ComesOf, after_boot_line}
+use Rattle.mcs_phases.specs.Feeds.{ComesOf, after_boot_line}
 use Rattle.mcs_phases.specs.Phases.{opened_to}
 use Rattle.mcs_phases.proofs.PhaseLaws.{after-open, comes-err}
 use Rattle.mcs_phases.proofs.phase.open.Goals as goal

@@ -1,7 +1,7 @@
 use Rattle.std.proofs.Common.{Ok, ℕ, ◌-◌, take, ap, sym, ◌∙◌}
 use Rattle.mcs_phases.specs.Script.{Script}
 use Rattle.mcs_types.specs.declared.entry.Step.{Step}
-use Rattle.mcs_phases.specs.Going.{read_at}
+use Rattle.mcs_phases.specs.Feeds.{read_at}
 use Rattle.mcs_phases.proofs.PhaseLaws.{opened-one, opened-all}
 use Rattle.mcs_phases.proofs.phase.read_opening.Goals as goal
 

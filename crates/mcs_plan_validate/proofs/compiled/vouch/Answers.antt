@@ -1,6 +1,6 @@
 use Rattle.std.proofs.Common.{ap, sym, subst, ◌∙◌}
 use Rattle.mcs_book.specs.History.{Book, log_of}
-use Rattle.mcs_phases.specs.Going.{book_lent}
+use Rattle.mcs_phases.specs.Feeds.{book_lent}
 use Rattle.mcs_plan_validate.specs.Leading.{AllLead}
 use Rattle.mcs_plan_validate.specs.Reading.{IsScriptOf}
 use Rattle.mcs_plan_validate.proofs.Boots.{plans_boot}

@@ -1,4 +1,4 @@
-use Rattle.mcs_sim.proofs.GoingLaws.{fed-append}
+use Rattle.mcs_sim.proofs.FeedLaws.{fed-append}
 use Rattle.mcs_sim.proofs.laws.fed_in_pieces.Goals as goal
 
 pub returns : goal.returns

@@ -1,5 +1,5 @@
 //! Scripts of users.
-use crate::tests::machines::crossing::{GIVEN_AGAIN, RECEIVER_FIRST};
+use crate::tests::machines::overlap::{GIVEN_AGAIN, RECEIVER_FIRST};
 use crate::tests::streams::{Input, Output, pipe_users, run_users};
 use crate::tests::texts::{ONE_CORE, gives_itself, occurrences, repeated};
 use mcs_sim::{Open, SimFault, Source};

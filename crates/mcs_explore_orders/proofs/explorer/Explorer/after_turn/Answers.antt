@@ -1,7 +1,7 @@
 use Rattle.std.specs.Prelude.{◌≡◌, Option, Some, IfNone, IfSome}
 use Rattle.std.proofs.Common.{refl, ap, sym, subst, ◌∙◌}
 use Rattle.mcs_types.specs.declared.entry.Answer.{Answer}
-use Rattle.mcs_turns.specs.Turns.{Going}
+use Rattle.mcs_turns.specs.Turns.{RunState}
 use Rattle.mcs_explore_walk.specs.Walks.{HasNoTurn, last_answer}
 use Rattle.mcs_explore_orders.specs.Trails.{Leads}
 use Rattle.mcs_explore_orders.specs.Shown.{HasCounted, SeesTurn}
@@ -24,7 +24,7 @@ returns-clause-reported g c =
     let reported = subst (λ (o : Option Answer). IfSome o (λ a. last_answer after_turn.book ≡ Some a)) c.in-Some.is c.in_ok-answer.ensures.answer in
     let from = c.as_slice.result.now in
     let sees = subst (λ h. SeesTurn g.W.Watch.HasSeen c.self.inside.watch c.see_turn.new.self users c.args.place c.args.turn c.in-Some.answer from h) c.deref-2.ensures c.in_ok-see_turn.ensures.sees in
-    let there_sees = subst (λ ps. SeesTurn g.W.Watch.HasSeen c.self.inside.watch c.see_turn.new.self users c.args.place c.args.turn c.in-Some.answer ps after_turn) (c.as_slice.ensures.value ∙ c.in_ok-from.ensures.items ∙ c.places.ensures ∙ ap (λ (x : Going). x.places) c.deref.ensures) sees in
+    let there_sees = subst (λ ps. SeesTurn g.W.Watch.HasSeen c.self.inside.watch c.see_turn.new.self users c.args.place c.args.turn c.in-Some.answer ps after_turn) (c.as_slice.ensures.value ∙ c.in_ok-from.ensures.items ∙ c.places.ensures ∙ ap (λ (x : RunState). x.places) c.deref.ensures) sees in
     rw (← c.self.view_is) (turn-reported (HasCounted g.W.Watch.HasSeen) _ _ users c.args.place c.args.turn walk after_turn c.in-Some.answer leads reported
     (turn-counted g.W.Watch.HasSeen _ _ users c.args.place c.args.turn c.in-Some.answer walk.places after_turn c.saturating_add-self-inside.ensures refl there_sees))
 

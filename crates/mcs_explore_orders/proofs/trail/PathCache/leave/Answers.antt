@@ -10,7 +10,7 @@ returns-in-Some-clause-walk c =
     let start = c.self.inside.start in
     let left : List Point = c.pop.new.self.items in
     let items : c.self.inside.stages.items ≡ left ++ c.in-Some.stage ∷ [] = subst (λ o. c.self.inside.stages.items ≡ left ++ option_to_list o) c.in-Some.is c.pop.ensures.items in
-    rw (← c.self.view_is) (ap (λ (p : Point). p.going) c.stage.view_is ∙ sym (ap (λ ps. last_point start ps) items ∙ last-pushed start left c.in-Some.stage))
+    rw (← c.self.view_is) (ap (λ (p : Point). p.run_state) c.stage.view_is ∙ sym (ap (λ ps. last_point start ps) items ∙ last-pushed start left c.in-Some.stage))
 
 pub returns-in-Some-clause-trail : goal.returns-in-Some-clause-trail
 returns-in-Some-clause-trail c =

@@ -4,7 +4,7 @@ use Rattle.std.specs.Prelude.{get_or, slice_get}
 use Rattle.std.proofs.lemmas.Option.{slice_get-get_or}
 use Rattle.mcs_turns.specs.declared.position.Pick.{Pick}
 use Rattle.mcs_turns.specs.Due.{stale_after}
-use Rattle.mcs_turns.specs.Turns.{Going}
+use Rattle.mcs_turns.specs.Turns.{RunState}
 use Rattle.mcs_explore_walk.specs.Walks.{left_stale}
 use Rattle.mcs_explore_walk.proofs.Picking.{stale-step}
 use Rattle.mcs_explore_walk.proofs.walk.Walk.stale_after.Goals as goal
@@ -13,7 +13,7 @@ pub loop-other-preserved : goal.loop-other-preserved
 loop-other-preserved g c =
     let i = c.loop-other.other in
     let ss : List (List Pick) = c.args.self.now.stale in
-    let view : c.self.inside.stale.items ≡ ss = ap (λ (w : Going). w.stale) c.self.view_is in
+    let view : c.self.inside.stale.items ≡ ss = ap (λ (w : RunState). w.stale) c.self.view_is in
     let many : length c.self.inside.stale.items ≡ length ss = ap (λ (l : List (List Pick)). length l) view in
     let low : i < length ss = omega (arith, c.loop-other-test.true, c.len-other-end.ensures, c.self.inside.stale.ok.0, many) in
     let at : slice_get ss i ≡ Some (get_or ss i []) = slice_get-get_or ss i [] low in

@@ -3,7 +3,7 @@ use Rattle.mcs_types.specs.declared.entry.Entry.{Entry}
 use Rattle.mcs_turns.specs.declared.program.Fill.{Fill}
 use Rattle.mcs_turns.specs.declared.program.Saved.{Saved}
 use Rattle.mcs_turns.specs.Programs.{filled}
-use Rattle.mcs_turns.specs.Turns.{User, Going, entered, given, saved_at}
+use Rattle.mcs_turns.specs.Turns.{User, RunState, entered, given, saved_at}
 use Rattle.mcs_explore_walk.specs.Walks.{step_of}
 use Rattle.mcs_explore_walk.proofs.Turning.{within-list}
 use Rattle.mcs_explore_walk.proofs.walk.Walk.turn.Goals as goal
@@ -18,7 +18,7 @@ returns-clause-turn g c =
     let is = c.in-Some.ensures.some in
     let turn = c.args.turn in
     let number = turn.pick.number in
-    let was : Going = c.args.self.now in
+    let was : RunState = c.args.self.now in
     let fills : c.as_slice-fills.result.now ≡ user.fills = c.as_slice-fills.ensures.value ∙ ap (λ (u : User). u.fills) c.list.view_is in
     let is_given : c.in_ok-given.given ≡ given was user turn.pick entry =
     c.in_ok-given.ensures ∙ ap (λ (fs : List Fill). filled fs number c.saved-saved.result c.in_ok-entry.entry) fills

@@ -1,5 +1,5 @@
 use Rattle.std.proofs.Common.{Some, None, ap, sym, subst, ◌∙◌}
-use Rattle.mcs_phases.specs.Going.{ComesOf, after_line}
+use Rattle.mcs_phases.specs.Feeds.{ComesOf, after_line}
 use Rattle.mcs_phases.specs.Phases.{opened_to, seen}
 use Rattle.mcs_phases.specs.declared.phase.Phase.{Phase}
 use Rattle.mcs_phases.proofs.PhaseLaws.{after-run, comes-stands}

@@ -1,7 +1,7 @@
 use Rattle.std.proofs.Common.{List, ℕ, ◌+◌, [], ◌∷◌, ◌++◌, OnOk, IfErr, refl, ap, sym, subst, ◌∙◌, take, drop, append_assoc}
 use Rattle.std.proofs.lemmas.List.{take_rest}
 use Rattle.mcs_sim.specs.Users.{TakesUsers, IsFaultIn}
-use Rattle.mcs_sim.proofs.GoingTakes.{line-cut}
+use Rattle.mcs_sim.proofs.FeedTakes.{line-cut}
 use Rattle.mcs_sim.proofs.RunLaws.{IfErr-same}
 use Rattle.mcs_sim.proofs.UserLaws.{takes-none, takes-append, fault-within, ok-append, err-append}
 use Rattle.mcs_sim.proofs.users.UserLines.feed.Goals as goal

@@ -1,5 +1,0 @@
-use Rattle.mcs_explore_run.proofs.Draws.{IsDrawnBelow}
-use Rattle.mcs_explore_run.proofs.drawing.draw.Given as goal
-
-abbrev pub invariant-loop-index : goal.invariant-loop-index
-invariant-loop-index g l = IsDrawnBelow l.users l.walk l.turns l.index l.drawn

@@ -1,6 +1,0 @@
-use Rattle.std.proofs.Common.{◌≡◌, true, take}
-use Rattle.mcs_plan_layout.specs.Fitting.{are_housed}
-use Rattle.mcs_plan_layout.proofs.fitting.are_housed.Given as goal
-
-abbrev pub invariant-loop-thread : goal.invariant-loop-thread
-invariant-loop-thread l = are_housed (take l.thread-index l.threads) ≡ true
