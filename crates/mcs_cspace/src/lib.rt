@@ -3,8 +3,8 @@
 #![tactic(auto)]
 
 mod levels;
-mod lookup;
+mod lookups;
 mod paths;
 
-pub use lookup::{in_range, lookup, lookup_slot};
+pub use lookups::{in_range, lookup, lookup_slot};
 pub use paths::radix_in;

@@ -5,14 +5,14 @@
 
 mod checks;
 mod contexts;
-mod exchange;
-mod receive;
-mod reply;
-mod send;
+mod exchanges;
+mod receives;
+mod replies;
+mod sends;
 mod transfer;
 
 pub use contexts::{bind_context, unbind_context};
-pub use exchange::{Ends, exchange};
-pub use receive::{receive, reply_receive};
-pub use reply::pay;
-pub use send::{call, send};
+pub use exchanges::{Ends, exchange};
+pub use receives::{receive, reply_receive};
+pub use replies::pay;
+pub use sends::{call, send};

@@ -3,12 +3,12 @@
 
 mod fault;
 mod kernel;
-mod replay;
 mod step_list;
+mod stepper;
 
 pub use fault::{EnterFault, ReplayFault};
 pub use kernel::Kernel;
 pub use mcs_boots::Boot;
 pub use mcs_types::Step;
-pub use replay::Replay;
 pub use step_list::replay;
+pub use stepper::Replay;

@@ -7,7 +7,7 @@ ghost use Rattle.mcs_kernel.specs.Runs.{full_in, EndsAt};
 
 use crate::fault::ReplayFault;
 use crate::kernel::Kernel;
-use crate::replay::Replay;
+use crate::stepper::Replay;
 use mcs_boots::Boot;
 use mcs_queues::Lines;
 use mcs_types::{OutOfMemory, Step};

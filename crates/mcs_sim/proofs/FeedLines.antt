@@ -16,7 +16,7 @@ use Rattle.mcs_text.specs.Table.{step_text}
 use Rattle.mcs_text.proofs.StepsWritten.{step-written}
 use Rattle.mcs_phases.specs.declared.fault.SimFault.{SimFault}
 use Rattle.mcs_phases.specs.declared.fault.SimFault.TheVariants as fault
-use Rattle.mcs_sim.specs.declared.trace.Written.{Written}
+use Rattle.mcs_sim.specs.declared.trace_text.Written.{Written}
 use Rattle.mcs_phases.specs.Script.{threads_of, says_something}
 use Rattle.mcs_sim.specs.Trace.{sent_after, sent_in, line_trace, lines_trace, unwritten, unwritten_lines, IsWrittenBy, IsWrittenOf, IsReadOf, IsReadOfAny}
 use Rattle.mcs_phases.specs.Feeds.{BootOrBook, Course, stepped, stands, read_at, step_line, step_spelled, behind_boot, after_step, book_after, after_line_on, after_line, past_line, with_line, TakesLine}

@@ -7,7 +7,7 @@ use Rattle.mcs_trace.specs.Output.{Moves, Puts, kept}
 use Rattle.mcs_trace.proofs.Outputs.{Puts-then, Puts-text}
 use Rattle.mcs_phases.specs.declared.fault.SimFault.{SimFault}
 use Rattle.mcs_phases.specs.declared.fault.SimFault.TheVariants as fault
-use Rattle.mcs_sim.specs.declared.trace.Written.{Written}
+use Rattle.mcs_sim.specs.declared.trace_text.Written.{Written}
 use Rattle.mcs_sim.specs.Trace.{IsLonger, IsWrittenBy, trace_of, unwritten_of}
 use Rattle.mcs_sim.specs.Runs.{Ends, TellsMore, WritesMore, HasFailed, answer_with}
 use Rattle.mcs_phases.specs.Feeds.{FeedState, at_line, no_line, fed, IsFairBook, TakesPiece}

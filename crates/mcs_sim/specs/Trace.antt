@@ -5,7 +5,7 @@ use Rattle.mcs_types.specs.declared.boot.BootLine.{BootLine}
 use Rattle.mcs_types.specs.declared.record.Rec.{Rec}
 use Rattle.mcs_types.specs.declared.record.Rec.TheVariants.{Sent}
 use Rattle.mcs_book.specs.History.{Line, Book}
-use Rattle.mcs_sim.specs.declared.trace.Written.{Written}
+use Rattle.mcs_sim.specs.declared.trace_text.Written.{Written}
 use Rattle.mcs_text.specs.Table.{cores_text, boot_text, step_text, answer_text, record_text}
 
 -- how many messages were sent with a record more

@@ -19,7 +19,7 @@ mod feed;
 mod laws;
 mod replay;
 mod run;
-mod trace;
+mod trace_text;
 mod users;
 
 pub use feed::ReplayRun;
@@ -30,5 +30,5 @@ pub use mcs_source::{ReadFault, Source};
 pub use mcs_trace::Sink;
 pub use replay::{TracedRun, simulate};
 pub use run::run_text;
-pub use trace::{put_boot, trace};
+pub use trace_text::{put_boot, trace};
 pub use users::UserLines;

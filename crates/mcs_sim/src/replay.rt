@@ -6,7 +6,7 @@ ghost use Rattle.mcs_phases.specs.Feeds.{Takes, TakesPiece, HasNoNewline, answer
 ghost use Rattle.mcs_sim.specs.Runs.{Finished, EndedBy, TellsMore, WritesMore, HasFailed, answer_with};
 
 use crate::feed::ReplayRun;
-use crate::trace::{Written, put_read, put_unwritten};
+use crate::trace_text::{Written, put_read, put_unwritten};
 use mcs_book::Book;
 use mcs_phases::SimFault;
 use mcs_source::{PIECE, Source};

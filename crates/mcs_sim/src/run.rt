@@ -6,7 +6,7 @@ ghost use Rattle.mcs_book.specs.Fair.{IsFair};
 ghost use Rattle.mcs_trace.specs.Output.{Rose};
 ghost use Rattle.mcs_sim.specs.Running.{Reads, EndsUsers, IsOfMachine, IsBookOf, RunFinished, RunEndedBy, run_fault, finish_fault};
 
-use crate::trace::trace;
+use crate::trace_text::trace;
 use crate::users::UserLines;
 use mcs_cores::{FinishFault, Gate, Machine, RunFault, Settled, Users};
 use mcs_kernel::{Boot, Kernel};

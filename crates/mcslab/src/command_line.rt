@@ -1,12 +1,12 @@
 //! What the command line asks for.
-use crate::compile::{self, Made};
+use crate::compilation::{self, Made};
 use crate::completions::{self, Shell};
-use crate::draw::{self, Drawn};
-use crate::explore::{self, Sought};
+use crate::first_plans::{self, Begun};
 use crate::forms::{self, Forms};
-use crate::graph::{self, Graphed};
-use crate::init::{self, Begun};
-use crate::walk::{self, Chance};
+use crate::graphs::{self, Graphed};
+use crate::orders::{self, Sought};
+use crate::pictures::{self, Drawn};
+use crate::walks::{self, Chance};
 use crate::{manual, renaming};
 use clap::builder::ValueParser;
 use clap::{Arg, ArgAction, ArgMatches, Command as Words, Error};
@@ -293,21 +293,21 @@ fn readers<'a>(alloc: Global) -> Result<Words<'a>, Error> {
     let words = either(alloc, words, why(alloc));
     let words = either(alloc, words, state(alloc));
     let words = either(alloc, words, book(alloc));
-    let words = either(alloc, words, draw::command(alloc, file(alloc)));
-    let words = either(alloc, words, explore::command(alloc, file(alloc)));
-    let words = either(alloc, words, graph::command(alloc, file(alloc)));
-    either(alloc, words, walk::command(alloc, file(alloc)))
+    let words = either(alloc, words, pictures::command(alloc, file(alloc)));
+    let words = either(alloc, words, orders::command(alloc, file(alloc)));
+    let words = either(alloc, words, graphs::command(alloc, file(alloc)));
+    either(alloc, words, walks::command(alloc, file(alloc)))
 }
 
 /// The program with the commands that read something.
 fn workers<'a>(alloc: Global) -> Result<Words<'a>, Error> {
-    let words = over(readers(alloc), compile::command(alloc, plan(alloc)));
+    let words = over(readers(alloc), compilation::command(alloc, plan(alloc)));
     over(words, trace_names::command(alloc))
 }
 
 /// Returns the program's commands.
 pub fn commands<'a>(alloc: Global) -> Result<Words<'a>, Error> {
-    let words = over(workers(alloc), init::command(alloc));
+    let words = over(workers(alloc), first_plans::command(alloc));
     let words = over(words, forms::command(alloc));
     let words = over(words, manual::command(alloc));
     over(words, completions::command(alloc))
@@ -325,7 +325,7 @@ fn without_file(command: Command<'_>) -> Request<'_> {
 /// Returns what is asked of the program itself, if anything.
 fn requested_of_program<'a>(matches: &ArgMatches<'a>) -> Option<Request<'a>> {
     if let Some(found) = matches.subcommand_matches("init") {
-        return Some(without_file(Command::Init(init::asked(found))));
+        return Some(without_file(Command::Init(first_plans::asked(found))));
     }
     if let Some(found) = matches.subcommand_matches("forms") {
         return Some(without_file(Command::Forms(forms::asked(found))));
@@ -340,7 +340,7 @@ fn requested_of_program<'a>(matches: &ArgMatches<'a>) -> Option<Request<'a>> {
 /// Returns what is asked of a plan or of the names of a script, if anything.
 fn requested_of_names<'a>(matches: &ArgMatches<'a>) -> Option<Request<'a>> {
     if let Some(found) = matches.subcommand_matches("compile") {
-        return Some(Request::plain(Command::Compile(compile::asked(found)), found));
+        return Some(Request::plain(Command::Compile(compilation::asked(found)), found));
     }
     let found = matches.subcommand_matches("names")?;
     Some(Request::plain(Command::Names, found))
@@ -349,13 +349,13 @@ fn requested_of_names<'a>(matches: &ArgMatches<'a>) -> Option<Request<'a>> {
 /// Returns what is asked of the orders of users, if anything.
 fn requested_of_users<'a>(matches: &ArgMatches<'a>) -> Option<Request<'a>> {
     if let Some(found) = matches.subcommand_matches("explore") {
-        return Some(Request::of_either(Command::Explore(explore::asked(found)), found));
+        return Some(Request::of_either(Command::Explore(orders::asked(found)), found));
     }
     if let Some(found) = matches.subcommand_matches("graph") {
-        return Some(Request::of_either(Command::Graph(graph::asked(found)), found));
+        return Some(Request::of_either(Command::Graph(graphs::asked(found)), found));
     }
     let found = matches.subcommand_matches("walk")?;
-    Some(Request::of_either(Command::Walk(walk::asked(found)), found))
+    Some(Request::of_either(Command::Walk(walks::asked(found)), found))
 }
 
 /// Returns what is asked of steps, if anything.
@@ -367,7 +367,7 @@ fn requested_of_steps<'a>(matches: &ArgMatches<'a>) -> Option<Request<'a>> {
         return Some(Request::of_either(Command::Json(numbers_of(found)), found));
     }
     if let Some(found) = matches.subcommand_matches("draw") {
-        let drawn = draw::asked(found)?;
+        let drawn = pictures::asked(found)?;
         return Some(Request::of_either(Command::Draw(drawn), found));
     }
     if let Some(found) = matches.subcommand_matches("state") {

@@ -1,6 +1,6 @@
 //! Completions of the command line for shells, by the program's own description of it.
 use crate::command_line::{commands, with};
-use crate::compile::write_whole;
+use crate::compilation::write_whole;
 use clap::builder::ValueParser;
 use clap::{Arg, ArgMatches, Command as Words, Error};
 use std::alloc::Global;

@@ -1,7 +1,7 @@
 //! The forms of plans, scripts and questions, as `mcslab forms` shows them.
 use crate::command_line::with;
-use crate::compile::write_whole;
-use crate::explore::ASKED_OF_ALL;
+use crate::compilation::write_whole;
+use crate::orders::ASKED_OF_ALL;
 use clap::{Arg, ArgMatches, Command as Words, Error};
 use mcs_lab_forms::FORMS;
 use mcs_plan_words::ENTRIES;

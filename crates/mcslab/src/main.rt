@@ -11,31 +11,29 @@
 #![tactic(auto)]
 
 mod command_line;
-mod compile;
+mod compilation;
 mod completions;
-mod draw;
-mod explore;
+mod first_plans;
 mod folder;
 mod forms;
-mod graph;
-mod init;
+mod graphs;
 mod input;
 mod manual;
 mod messages;
+mod orders;
+mod pictures;
 mod plan;
 mod trace_names;
-mod walk;
+mod walks;
 
 use clap::Error;
 use clap::error::ErrorKind;
 use command_line::{Command, Request, requested};
 use completions::write_completions;
-use draw::{Drawn, Said, draw};
-use explore::{Sought, explore};
+use first_plans::begin;
 use folder::make_folder;
 use forms::show_forms;
-use graph::graph;
-use init::begin;
+use graphs::graph;
 use input::{Kept, open, tell_unopened};
 use manual::write_manual;
 use mcs_command_line::arguments;
@@ -45,12 +43,14 @@ use mcs_lab_inspect::{explain, show_state, write_json};
 use mcs_plan_words::{Path, crossed, line_of};
 use mcs_sim::{SimFault, Source};
 use messages::tell_script_fault;
+use orders::{Sought, explore};
+use pictures::{Drawn, Said, draw};
 use plan::do_plan;
 use std::alloc::{AllocError, Global};
 use std::io::{self, BufWriter, Read, Write};
 use std::process::ExitCode;
 use trace_names::tell_trace;
-use walk::walk;
+use walks::walk;
 
 /// Returns the exit code for an outcome.
 fn ended(outcome: Outcome) -> ExitCode {
@@ -168,7 +168,7 @@ fn described(rt: &HostRuntime, made: Result<ExitCode, Error>) -> ExitCode {
 /// Performs a request, with its file or the standard input.
 fn carry_out(rt: &HostRuntime, request: &Request<'_>) -> ExitCode {
     match request.command {
-        Command::Compile(made) => return compile::compile_plan(rt, request.file, made),
+        Command::Compile(made) => return compilation::compile_plan(rt, request.file, made),
         Command::Names => return tell_trace(rt, request.file),
         Command::Init(begun) => return begin(rt, begun),
         Command::Forms(forms) => return show_forms(rt, forms),

@@ -1,6 +1,6 @@
 //! The manual page of the program, by its own description of the command line.
 use crate::command_line::{HELP, commands};
-use crate::compile::write_whole;
+use crate::compilation::write_whole;
 use clap::{Arg, Command as Words, Error};
 use std::alloc::Global;
 use std::io::{self, Write};

@@ -1,13 +1,13 @@
 //! What is asked of a plan: it is compiled in memory, and the command is done with its script. The
 //! report has the plan's lines and names.
 use crate::command_line::{Command, Request};
-use crate::draw::{Drawn, Said, draw};
-use crate::explore::{Sought, explore};
-use crate::graph::graph;
+use crate::graphs::graph;
 use crate::input::plan_bytes;
 use crate::messages::{reads_users, tell_fault, tell_plan_fault, tell_stranger};
+use crate::orders::{Sought, explore};
+use crate::pictures::{Drawn, Said, draw};
 use crate::status_if;
-use crate::walk::walk;
+use crate::walks::walk;
 use mcs_explore_questions::ExploreFault;
 use mcs_lab_check::{LabFault, Outcome, check};
 use mcs_lab_inspect::{Numbers, Wanted, explain, show_state, write_json};
