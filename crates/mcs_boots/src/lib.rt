@@ -2,5 +2,7 @@
 #![tactic(auto)]
 
 mod boot;
+mod same;
 
 pub use boot::{Boot, boot_state};
+pub use same::are_same_lines;

@@ -5,11 +5,11 @@ use crate::candidates::{Candidate, Candidates, Turn};
 use crate::core_set::CoreSet;
 use crate::machine::LockedKernel;
 use crate::users::{UserList, Users};
-use mcs_kernel::Kernel;
+use mcs_kernel::{Kernel, is_ready};
 use mcs_queues::Lines;
 use mcs_seats::{Answered, CoreSeat, Prepared, Turned};
 use mcs_turns::Position;
-use mcs_types::{CoreId, ObjId, OutOfMemory, Status};
+use mcs_types::{CoreId, ObjId, OutOfMemory};
 use std::alloc::Global;
 use std::sync::ledger::Ledger;
 
@@ -30,11 +30,6 @@ pub(crate) struct Positions {
     pub(crate) over: bool,
 }
 
-/// Returns whether a thread of this status can run.
-fn is_ready(status: Status) -> bool {
-    matches!(status, Status::Running | Status::Restart)
-}
-
 impl UserPosition {
     /// Returns the position before the first entry.
     fn start(list: &UserList) -> UserPosition {
@@ -50,15 +45,15 @@ impl UserPosition {
     /// thread may enter nowhere.
     fn candidate<L: Lines>(&self, kernel: &Kernel<L>, user: usize) -> Option<Candidate> {
         let row = kernel.thread(self.thread)?;
-        let status = row.status();
-        if !is_ready(status) || !self.place.is_left(Some(status), self.entries) {
+        let status = Some(row.status());
+        if !is_ready(status) || !self.place.is_left(status, self.entries) {
             return None;
         }
         let core = kernel.core(kernel.context(self.thread)?)?;
         let turn = Turn {
             thread: self.thread,
             user,
-            number: self.place.due(Some(status)),
+            number: self.place.due(status),
             moves: self.moves,
         };
         Some(Candidate {

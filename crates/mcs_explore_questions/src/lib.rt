@@ -3,7 +3,7 @@
 //!
 //! ```text
 //! `answer t1 2 got 9 *` ── words ──> the words, one after another
-//!     ── reading ──> `Asked`, or a `QuestionFault` that names the word
+//!     ── parser ──> `Asked`, or a `QuestionFault` that names the word
 //!     ── there ──> threads, their entries, objects and their names: what a word may name
 //!     ── forms ──> whether a pattern can match a line of a trace
 //!     ── patterns ──> whether it matches one

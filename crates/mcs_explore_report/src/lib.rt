@@ -3,9 +3,9 @@
 //!
 //! ```text
 //! source ── mcs_explore_script ──> the boot, the users, their entries, the questions (`#!`)
-//!     ── mcs_explore_orders ──> each state and each turn, reported to `watching`
-//!     ── watching ──> ends, answers, failures
-//!     ── report ──> `text` or `json`, and scripts of steps (`saving`)
+//!     ── mcs_explore_orders ──> each state and each turn, reported to `watcher`
+//!     ── watcher ──> ends, answers, failures
+//!     ── report ──> `text` or `json`, and scripts of steps (`saver`)
 //! ```
 #![tactic(auto)]
 

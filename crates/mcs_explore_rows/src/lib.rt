@@ -2,8 +2,8 @@
 //! alike.
 //!
 //! ```text
-//! a state ── exact ──> all its answers, in rows of numbers ── met ──> the numbers of these rows
-//!     ── coding ──> its key, in bytes
+//! a state ── exact ──> all its answers, in rows of numbers ── interner ──> the numbers of these rows
+//!     ── codec ──> its key, in bytes
 //! ```
 #![tactic(auto)]
 

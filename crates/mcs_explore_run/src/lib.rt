@@ -1,10 +1,10 @@
 //! Random runs of the users of a script: each turn is drawn among the possible ones.
 //!
 //! ```text
-//! a script ── drawing ──> one of the turns that the rule allows, with equal probability
-//!     ── running ──> a run of a limited number of turns: its script, or a watch sees it
-//!     ── sampling ──> many runs, each with its own seed, and what is collected of them
-//!     ── showing ──> what they show of each question ── telling ──> a report
+//! a script ── draws ──> one of the turns that the rule allows, with equal probability
+//!     ── run ──> a run of a limited number of turns: its script, or a watch sees it
+//!     ── samples ──> many runs, each with its own seed, and what is collected of them
+//!     ── evidence ──> what they show of each question ── report ──> a report
 //! ```
 #![tactic(auto)]
 

@@ -4,7 +4,7 @@ ghost use Rattle.std.specs.List.{Contains, list_any};
 ghost use Rattle.mcs_types.specs.declared.id.ObjId.{ObjId};
 ghost use Rattle.mcs_book.specs.History.{IsLegal, log_of};
 ghost use Rattle.mcs_book.specs.Picking.{GoesBefore};
-ghost use Rattle.mcs_book.specs.Statuses.{is_ready, may_enter, status_of};
+ghost use Rattle.mcs_book.specs.Statuses.{may_enter, status_of};
 ghost use Rattle.mcs_book.specs.Threads.{prio_of};
 ghost use Rattle.mcs_turns.specs.declared.position.Position.{Position};
 ghost use Rattle.mcs_turns.specs.Due.{is_same, none_stale, picks_at, stale_after};
@@ -15,7 +15,7 @@ ghost use Rattle.mcs_explore_walk.specs.Walks.{AreBest, AreBestBelow, EntersSome
 use crate::copies::copy_all;
 use crate::fault::{OrdersFault, limit_of};
 use crate::mail::{newest, tell_all};
-use mcs_kernel::{Boot, EnterFault, Kernel};
+use mcs_kernel::{Boot, EnterFault, Kernel, is_ready};
 use mcs_queues::Lines;
 use mcs_turns::{Pick, Position, Saved, filled};
 use mcs_types::{Answer, CoreId, Entry, ObjId, OutOfMemory, Status, copy_rows};
@@ -86,13 +86,6 @@ fn may_enter<L: Lines>(kernel: &Kernel<L>, core: CoreId, thread: ObjId) -> bool
     ensures { result ≡ may_enter (log_of kernel.now) core thread }
 {
     is_let_in(kernel.fault(core, thread))
-}
-
-/// Returns whether a thread with this status can run.
-fn is_ready(status: Option<Status>) -> bool
-    ensures { result ≡ is_ready status }
-{
-    matches!(status, Some(Status::Running | Status::Restart))
 }
 
 /// The core on which a thread with this status may enter; None if it may enter nowhere.

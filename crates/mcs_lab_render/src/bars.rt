@@ -1,10 +1,11 @@
 //! The bars of lanes on the page.
 use crate::labels::{Naming, put_full_name};
-use crate::notes::{is_ready, put_look, put_whole_look};
+use crate::notes::{put_look, put_whole_look};
 use crate::paper::{Area, put_area, put_attribute};
 use crate::plans::Plan;
 use crate::scene::{Scene, place_of};
 use crate::texts::Words;
+use mcs_kernel::is_ready;
 use mcs_lab_diagram::{Drawing, Look};
 use mcs_lab_inspect::TextBuffer;
 use mcs_types::{ObjId, Status};

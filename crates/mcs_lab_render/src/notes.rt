@@ -2,6 +2,7 @@
 use crate::labels::{Naming, put_name, put_queue};
 use crate::numbers::{is_large, put_number};
 use mcs_book::{Book, Line};
+use mcs_kernel::is_ready;
 use mcs_lab_diagram::{Arrow, Look, Point, Shown, Strokes};
 use mcs_lab_inspect::TextBuffer;
 use mcs_types::{Ending, Entry, Kind, Message, ObjId, Rec, SendMode, Status};
@@ -153,11 +154,6 @@ pub fn put_lost(alloc: Global, to: &mut TextBuffer, entry: &Entry) {
         | Entry::NbSendWait { message, .. } => put_message(alloc, to, message, FEW),
         _ => {}
     }
-}
-
-/// Returns whether a thread with this status can run.
-pub fn is_ready(status: Option<Status>) -> bool {
-    matches!(status, Some(Status::Running | Status::Restart))
 }
 
 /// Appends the status of a thread.

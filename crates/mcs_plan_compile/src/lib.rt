@@ -2,12 +2,12 @@
 //!
 //! ```text
 //! bytes ── lines ──> lines
-//! lines before the first step ── mcs_plan_source ──> Plan ── mcs_plan_layout ──> Laid: the boot,
-//!     and the table of names of each thread
+//! lines before the first step ── mcs_plan_source ──> Plan ── mcs_plan_layout ──> PlanLayout: the
+//!     boot, and the table of names of each thread
 //! lines of steps and of users ── steps, entries ──> the same lines, with addresses for names
 //! lines of programs ── programs ──> lines `#! THREAD: STATEMENT`, with addresses for names
-//! lines that begin with `?`   ── wanting ──> what `mcslab check` reads
-//! all of these are a Script   ── writing ──> the text; mapping ──> the table of names
+//! lines that begin with `?`   ── expectations ──> what `mcslab check` reads
+//! all of these are a Script   ── script_text ──> the text; address_map ──> the table of names
 //! ```
 #![tactic(auto)]
 

@@ -2,7 +2,7 @@
 //!
 //! ```text
 //! a plan ── statements ──> the statements of its lines
-//!     ── reading ──> a `System`: domains with their handlers, channels, and all other lines
+//!     ── parser ──> a `System`: domains with their handlers, channels, and all other lines
 //!     ── capabilities ──> objects, threads, and each domain's capabilities
 //!     ── handlers, inputs, programs ──> a program for each domain: the loop of libmicrokit
 //!     ── monitors ──> a program for each monitor; questions ──> the questions to all orders

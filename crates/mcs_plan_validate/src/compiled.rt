@@ -5,8 +5,9 @@ ghost use Rattle.mcs_plan_validate.specs.Reading.{IsBootOf, IsVouched};
 
 use crate::fault::CompileFault;
 use crate::resolution::first_unresolved;
-use crate::script::{are_same_lines, booted, take_script};
+use crate::script::{booted, take_script};
 use mcs_book::Book;
+use mcs_kernel::are_same_lines;
 use mcs_plan_compile::{Script, compile, write_boot, write_lines, write_script};
 use mcs_text::read_user;
 use mcs_types::{OutOfMemory, Room};

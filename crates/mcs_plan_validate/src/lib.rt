@@ -3,9 +3,9 @@
 //!
 //! ```text
 //! plan with domains ── mcs_plan_domains ──> plan; loaded: the original line for each line
-//! plan ── mcs_plan_compile ──> Script ── text ── reading ──> the book that the text makes
-//!                            │                            │ its boot, alone in a kernel
-//!                            └─ names ────── leading ─────┘ each place and address is looked up
+//! plan ── mcs_plan_compile ──> Script ── text ── script ──> the book that the text makes
+//!                            │                           │ its boot, alone in a kernel
+//!                            └─ names ──── resolution ───┘ each place and address is looked up
 //! ```
 #![tactic(auto)]
 

@@ -1,12 +1,12 @@
 //! A text, read as a script.
-ghost use Rattle.std.specs.Prelude.{◌≡◌, ◌↔◌, [], IsTrue, IfOk};
+ghost use Rattle.std.specs.Prelude.{◌≡◌, [], IfOk};
 ghost use Rattle.mcs_plan_validate.specs.Reading.{IsScriptOf};
 
 use mcs_book::Book;
 use mcs_kernel::{Boot, Kernel};
 use mcs_queues::LinkedLines;
 use mcs_sim::{ReplayRun, SimFault};
-use mcs_types::{BootFault, BootLine, OutOfMemory};
+use mcs_types::{BootFault, OutOfMemory};
 use std::alloc::Global;
 
 /// Replays a script of steps to its end. Fails with the first of its faults.
@@ -42,26 +42,4 @@ pub fn booted(alloc: Global, book: &Book) -> Result<Kernel<LinkedLines>, BootFau
         Ok(kernel) => Ok(kernel),
         Err(OutOfMemory) => Err(BootFault::OutOfMemory),
     }
-}
-
-/// Returns whether two lines of a boot are the same.
-fn is_same_line(one: &BootLine, other: &BootLine) -> bool
-    ensures { IsTrue result ↔ (one.now ≡ other.now) }
-{
-    *one == *other
-}
-
-/// Returns whether two boots have the same lines.
-pub fn are_same_lines(one: &[BootLine], other: &[BootLine]) -> bool
-    ensures { IsTrue result ↔ (one.now ≡ other.now) }
-{
-    if one.len() != other.len() {
-        return false;
-    }
-    for i in 0..one.len() {
-        if !is_same_line(&one[i], &other[i]) {
-            return false;
-        }
-    }
-    true
 }

@@ -4,10 +4,10 @@
 //! ```text
 //! plan ── planned ──> Planned: its script, the lines of which this came, the texts of its steps
 //! script of users ── alignment ──> whether it has the lines that it had
-//! report on the script ── retelling ──> the report by the plan's lines (numbering) and names
-//!     (speaking), with numbers as the plan spells them (spelling)
-//! fault of a plan ── refusing ──> a line that says why there is no script: advice, entry_forms
-//! fault of a file ── telling ──> FILE:LINE: (place), the fault (line_message), and what is odd in
+//! report on the script ── reports ──> the report by the plan's lines (line_numbers) and names
+//!     (texts), with numbers as the plan spells them (numbers)
+//! fault of a plan ── refusals ──> a line that says why there is no script: advice, entry_forms
+//! fault of a file ── messages ──> FILE:LINE: (place), the fault (line_message), and what is odd in
 //!     the line (oddities), or a hint (hints), or for which other command it is right (stranger)
 //! lines that a command names ── range, steps ──> the steps between them, or why it is refused
 //! ```

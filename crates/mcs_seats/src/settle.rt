@@ -8,9 +8,9 @@ ghost use Rattle.mcs_seats.specs.Settling.{AllAgree, HasSeats, LacksSeat, Becaus
 use crate::retrace::first_torn;
 use crate::seat::CoreSeat;
 use mcs_book::Book;
-use mcs_kernel::{Boot, Kernel};
+use mcs_kernel::{Boot, Kernel, are_same_lines};
 use mcs_queues::Lines;
-use mcs_types::{BootLine, CoreId, OutOfMemory};
+use mcs_types::{CoreId, OutOfMemory};
 use std::alloc::Global;
 use std::marker::Model;
 use std::sync::ledger::Ledger;
@@ -43,28 +43,6 @@ fn has_seats<G: Ledger>(seats: &Vec<CoreSeat<G>>, book: &Book) -> bool
 {
     for core in 0..book.cores() {
         if !has_seat(seats, core) {
-            return false;
-        }
-    }
-    true
-}
-
-/// Returns whether two lines of a boot are the same.
-fn is_same_line(one: &BootLine, other: &BootLine) -> bool
-    ensures { IsTrue result ↔ (one.now ≡ other.now) }
-{
-    *one == *other
-}
-
-/// Returns whether two boots have the same lines.
-fn are_same_lines(one: &[BootLine], other: &[BootLine]) -> bool
-    ensures { IsTrue result ↔ (one.now ≡ other.now) }
-{
-    if one.len() != other.len() {
-        return false;
-    }
-    for i in 0..one.len() {
-        if !is_same_line(&one[i], &other[i]) {
             return false;
         }
     }

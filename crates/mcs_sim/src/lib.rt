@@ -7,12 +7,12 @@
 //! Book -> Sink -> writer
 //! ```
 //!
-//! The upper path is `simulate`: `feeding` cuts pieces into lines and keeps the first fault,
-//! `Phase` takes a line (of the boot, or a step after it), and `replaying` writes what each piece
-//! adds to the trace before it reads on. The lower path is `run_text`: `users` reads to the end,
-//! and `running` runs all users on a machine and then writes. `Source` retries interrupted reads,
-//! `Script` reads lines, and `writing` writes the trace of a book, or what of it was not written
-//! yet. `laws` has what holds of all texts, however they are cut.
+//! The upper path is `simulate`: `feed` cuts pieces into lines and keeps the first fault, `Phase`
+//! takes a line (of the boot, or a step after it), and `replay` writes what each piece adds to the
+//! trace before it reads on. The lower path is `run_text`: `users` reads to the end, and `run` runs
+//! all users on a machine and then writes. `Source` retries interrupted reads, `Script` reads
+//! lines, and `trace_text` writes the trace of a book, or what of it was not written yet. `laws`
+//! has what holds of all texts, however they are cut.
 #![tactic(auto)]
 
 mod feed;

@@ -11,9 +11,9 @@
 //! A primitive adds exactly its record (`hands` its two), and requires only that the record is
 //! allowed; a query returns what the definition says of all records so far. The invariant of
 //! `State` is that the tables say of each id what the records say, so the crates above name no
-//! table. `state` has the primitives and the queries, by what they change or return; `changing`,
-//! `attending`, `returning` and `waking` are steps that operations share; `letters` and `queued`
-//! are the open messages and the threads of a queue.
+//! table. `state` has the primitives and the queries, by what they change or return; `changes`,
+//! `receivers`, `contexts` and `wakeup` are steps that operations share; `letters` and `queued` are
+//! the open messages and the threads of a queue.
 #![tactic(auto)]
 
 mod changes;
@@ -31,5 +31,5 @@ pub use contexts::{give_back, stand};
 pub use mcs_replies::Chain;
 pub use mcs_threads::ThreadRow;
 pub use queued::Queued;
-pub use state::State;
+pub use state::{State, is_ready};
 pub use wakeup::wake;

@@ -31,6 +31,7 @@ use mcs_types::{
     Answer, BOOK_LINES, Badge, BootLine, Cap, Copied, Copies, Kind, LINE_RECORDS, Letter, Message,
     Mode, OBJECTS, ObjId, OutOfMemory, Prio, Queue, Rec, SendMode, Step, cap_again,
 };
+pub use picks::is_ready;
 use std::alloc::Global;
 use std::marker::Model;
 

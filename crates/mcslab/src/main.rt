@@ -4,9 +4,9 @@
 //! ```text
 //! words ── command_line ──> Request: a command, and its file
 //! file ── input ──> a script, which is read as it comes, or a plan, which is read whole
-//! plan ── planning ──> the command with the script that it becomes, and the report by the plan's
-//!     lines and names (mcs_plan_words)
-//! faults ── telling ──> FILE:LINE: .. (mcs_plan_words) on the standard error, and the exit status
+//! plan ── plan ──> the command with the script that it becomes, and the report by the plan's lines
+//!     and names (mcs_plan_words)
+//! faults ── messages ──> FILE:LINE: .. (mcs_plan_words) on the standard error, and the exit status
 //! ```
 #![tactic(auto)]
 

@@ -15,7 +15,7 @@ use mcs_object_queues::Waiting;
 use mcs_types::{CoreId, Kind, ObjId, Status, ThreadSet};
 
 /// Returns whether a thread of this status can run.
-fn is_ready(status: Option<Status>) -> bool
+pub fn is_ready(status: Option<Status>) -> bool
     ensures { result ≡ is_ready status }
 {
     matches!(status, Some(Status::Running | Status::Restart))
