@@ -9,7 +9,7 @@ ghost use Rattle.mcs_explore_orders.specs.Shown.{HasCounted, IsShownState, IsSho
 ghost use Rattle.mcs_explore_orders.specs.Watching.{GoesOn, counting};
 
 use crate::packed::PackedTurn;
-use crate::trail::PathCache;
+use crate::path_cache::PathCache;
 use mcs_explore_keys::{Key, Keys};
 use mcs_explore_search::System;
 use mcs_explore_walk::{OrdersFault, Picks, Turn, Users, Walk};

@@ -3,7 +3,7 @@
 //!
 //! ```text
 //! users ── walk ──> a kernel, the position of each user, and what each core may enter
-//!     ── trail ──> states cached along a path of turns; the last is copied for each turn from it
+//!     ── path_cache ──> states cached along a path of turns; the last is copied for each turn from it
 //!     ── keys ──> the key of a state, which decides its future
 //!     ── explorer ──> the system that `mcs_explore_search` searches; it reports to a `Watch`
 //! ```
@@ -12,9 +12,9 @@
 mod explorer;
 mod nobody;
 mod packed;
+mod path_cache;
 mod replay;
 mod search;
-mod trail;
 
 pub use explorer::{Explorer, Watch};
 pub use mcs_explore_search::{Budget, Edge};

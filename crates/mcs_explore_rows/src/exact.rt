@@ -10,7 +10,7 @@ ghost use Rattle.mcs_explore_rows.specs.Rows.{cnode_numbers, cnode_rows, context
 ghost use Rattle.mcs_turns.specs.Due.{choices};
 ghost use Rattle.mcs_turns.specs.Turns.{ArePicks};
 
-use crate::met::{Numbers, RowInterner};
+use crate::interner::{Numbers, RowInterner};
 use crate::numbers::{Row, put, put_any_id, put_cap, put_flag, put_id, put_letter, put_thread};
 use mcs_explore_walk::{Picks, Users, Walk, picked};
 use mcs_kernel::Kernel;

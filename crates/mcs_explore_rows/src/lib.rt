@@ -2,7 +2,8 @@
 //! alike.
 //!
 //! ```text
-//! a state ── exact ──> all its answers, in rows of numbers ── interner ──> the numbers of these rows
+//! a state ── exact ──> all its answers, in rows of numbers
+//!     ── interner ──> the numbers of these rows
 //!     ── codec ──> its key, in bytes
 //! ```
 #![tactic(auto)]
@@ -10,10 +11,10 @@
 mod codec;
 mod exact;
 mod hashed;
-mod met;
+mod interner;
 mod numbers;
 
 pub use codec::{Key, key_of};
 pub use exact::exact_numbers;
-pub use met::{Numbers, RowInterner};
+pub use interner::{Numbers, RowInterner};
 pub use numbers::{Row, kind_number, send_number};

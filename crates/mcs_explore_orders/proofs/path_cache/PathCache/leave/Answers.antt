@@ -3,7 +3,7 @@ use Rattle.std.specs.Option.{option_to_list}
 use Rattle.std.proofs.Common.{ap, sym, subst, ◌∙◌}
 use Rattle.mcs_explore_orders.specs.Trails.{IsTrail, Point, last_point}
 use Rattle.mcs_explore_orders.proofs.Paths.{last-pushed, trail-front}
-use Rattle.mcs_explore_orders.proofs.trail.PathCache.leave.Goals as goal
+use Rattle.mcs_explore_orders.proofs.path_cache.PathCache.leave.Goals as goal
 
 pub returns-in-Some-clause-walk : goal.returns-in-Some-clause-walk
 returns-in-Some-clause-walk c =

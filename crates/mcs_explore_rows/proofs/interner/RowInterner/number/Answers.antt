@@ -1,6 +1,6 @@
 use Rattle.std.proofs.Common.{ap, sym, ◌∙◌, slice_get}
 use Rattle.mcs_explore_rows.proofs.Naming.{found-at, row_items, ok-at}
-use Rattle.mcs_explore_rows.proofs.met.RowInterner.number.Goals as goal
+use Rattle.mcs_explore_rows.proofs.interner.RowInterner.number.Goals as goal
 
 pub returns-in-Some-clause-number : goal.returns-in-Some-clause-number
 returns-in-Some-clause-number c =

@@ -1,6 +1,6 @@
 use Rattle.std.proofs.Common.{ap, ◌∙◌, map, slice_get}
 use Rattle.mcs_explore_rows.proofs.Naming.{row_items, same_rows, stands, still}
-use Rattle.mcs_explore_rows.proofs.met.RowInterner.add.Goals as goal
+use Rattle.mcs_explore_rows.proofs.interner.RowInterner.add.Goals as goal
 
 pub returns-clause-number : goal.returns-clause-number
 returns-clause-number c =

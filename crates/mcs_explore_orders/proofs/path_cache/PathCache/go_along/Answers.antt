@@ -4,7 +4,7 @@ use Rattle.mcs_turns.specs.Turns.{RunState}
 use Rattle.mcs_explore_search.specs.Paths.{Path}
 use Rattle.mcs_explore_orders.specs.Trails.{Leads}
 use Rattle.mcs_explore_orders.proofs.Paths.{leads-on, trail-push, trail-take, turns-push}
-use Rattle.mcs_explore_orders.proofs.trail.PathCache.go_along.Goals as goal
+use Rattle.mcs_explore_orders.proofs.path_cache.PathCache.go_along.Goals as goal
 
 pub loop-at-init : goal.loop-at-init
 loop-at-init c =

@@ -5,7 +5,7 @@ use Rattle.mcs_explore_walk.specs.declared.walk.Turn.{Turn}
 use Rattle.mcs_explore_orders.specs.Trails.{IsTrail, Leads, last_point, turns_of}
 use Rattle.mcs_explore_orders.proofs.Nexts.{rest-all}
 use Rattle.mcs_explore_orders.proofs.Paths.{arrives}
-use Rattle.mcs_explore_orders.proofs.trail.PathCache.walk_to.Goals as goal
+use Rattle.mcs_explore_orders.proofs.path_cache.PathCache.walk_to.Goals as goal
 
 pub returns-clause-walk : goal.returns-clause-walk
 returns-clause-walk c =

@@ -2,7 +2,7 @@ use Rattle.std.specs.Prelude.{◌≡◌, ◌-◌, Some, length, option_copied, s
 use Rattle.std.proofs.Common.{ap, sym, subst, ◌∙◌}
 use Rattle.mcs_explore_orders.specs.Trails.{Point}
 use Rattle.mcs_explore_orders.proofs.Paths.{last-at}
-use Rattle.mcs_explore_orders.proofs.trail.PathCache.last.Goals as goal
+use Rattle.mcs_explore_orders.proofs.path_cache.PathCache.last.Goals as goal
 
 pub returns-in-Some : goal.returns-in-Some
 returns-in-Some c =
