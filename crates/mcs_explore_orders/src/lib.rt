@@ -3,7 +3,7 @@
 //!
 //! ```text
 //! users ── walk ──> a kernel, the position of each user, and what each core may enter
-//!     ── path_cache ──> states cached along a path of turns; the last is copied for each turn from it
+//!     ── path_cache ──> states cached along a path of turns; a turn is made on a copy of the last
 //!     ── keys ──> the key of a state, which decides its future
 //!     ── explorer ──> the system that `mcs_explore_search` searches; it reports to a `Watch`
 //! ```
