@@ -12,8 +12,8 @@ use clap::{Arg, ArgAction, ArgMatches, Command, Error, value_parser};
 use mcs_types::CORES;
 use std::alloc::Global;
 
-/// The version of the program (own).
-const VERSION: &str = "0.1.0";
+/// The version of both programs (own).
+pub const VERSION: &str = "0.1.0";
 
 /// The exit statuses of `SimFault`.
 const STATUSES: &str = "\

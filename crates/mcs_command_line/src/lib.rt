@@ -6,5 +6,5 @@ mod command_line;
 mod startup;
 
 pub use choice::{Options, Task};
-pub use command_line::options;
+pub use command_line::{VERSION, options};
 pub use startup::{answer_status, arguments};

@@ -4,7 +4,7 @@ ghost use Rattle.std.specs.List.{flat_map};
 ghost use Rattle.mcs_explore_graph.specs.Graphs.{answered_text, but_last, label_text, reached_text};
 
 use mcs_book::Line;
-use mcs_explore_report::{reached_by, text_of};
+use mcs_explore_report::{put, reached_by, text_of};
 use mcs_explore_script::fault_of;
 use mcs_lab_check::LabFault;
 use mcs_text::Token;
@@ -17,14 +17,6 @@ fn but_last(text: &[u8]) -> &[u8]
     ensures { result.now ≡ but_last text.now }
 {
     &text[..text.len().saturating_sub(1)]
-}
-
-/// Appends bytes to a text.
-pub fn put(text: &mut Vec<u8>, bytes: &[u8]) -> Result<(), LabFault>
-    ensures { OnOk result (text.new.items ≡ text.old.items ++ bytes.now) }
-{
-    text.extend_from_slice(bytes)?;
-    Ok(())
 }
 
 /// Appends what reached a waiting thread; `buffer` is for its words.

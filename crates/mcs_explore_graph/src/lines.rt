@@ -2,7 +2,7 @@
 ghost use Rattle.std.specs.Prelude.{◌≡◌, ◌++◌, IfOk, OnOk, decimal};
 ghost use Rattle.mcs_explore_graph.specs.Graphs.{aut_head, aut_line, dot_line, end_text, head_text, line_text};
 
-use crate::labels::put;
+use mcs_explore_report::put;
 use mcs_lab_check::LabFault;
 use mcs_text::Token;
 use mcs_trace::{Line as Buffer, spell};

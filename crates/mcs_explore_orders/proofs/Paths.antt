@@ -109,9 +109,3 @@ arrives users g ps path n w trail along some ends =
     let first = path-parts users g (take n path) (drop n path) some.0 whole in
     let here : first.0 ≡ last_point g ps = path-one users g (take n path) first.0 (last_point g ps) first.1.0 (subst (λ ts. Path (Leads users) g ts (last_point g ps)) along (trail-path users g ps trail)) in
     subst (λ s. Path (Leads users) g path s) (sym (ends some.0 (subst (λ u. Path (Leads users) u (drop n path) some.0) here first.1.1))) some.1
-
--- what is in a place that a list has
-pub or-at : {A : Type 0} (xs : List A) (n : ℕ) (d : A) → n < length xs → slice_get xs n ≡ Some (slice_index_or xs n d)
-or-at [] n d lt = absurd (omega (arith, lt))
-or-at (x ∷ xs) zero d lt = refl
-or-at (x ∷ xs) (suc n) d lt = or-at xs n d (omega (arith, lt))

@@ -7,7 +7,8 @@ use Rattle.mcs_explore_report.specs.declared.answers.Witness.{Witness}
 use Rattle.mcs_explore_report.specs.declared.judgement.Sighting.{Sighting}
 use Rattle.mcs_explore_report.specs.Ends.{Kind}
 use Rattle.mcs_explore_report.specs.Verdicts.{HasEach, IsAlways, IsEndSearched, IsFoundIn, IsNotIn, lacks}
-use Rattle.mcs_explore_report.proofs.Lists.{same-or-not, some-same}
+use Rattle.mcs_explore_search.proofs.Places.{some-same}
+use Rattle.mcs_explore_report.proofs.Lists.{same-or-not}
 
 pub answer_always : (witnesses : List Witness) (pattern : List ℕ) (kinds : List Kind) (e : Event) (seen : Sighting) → IsFoundIn witnesses pattern false seen → IsAlways witnesses pattern kinds e (Some seen)
 answer_always witnesses pattern kinds e seen found = inl found

@@ -18,7 +18,7 @@ use Rattle.mcs_explore_report.specs.Judged.{AreJudged, AreJudgedBy, judged}
 use Rattle.mcs_explore_report.specs.Judging.{fails}
 use Rattle.mcs_turns.specs.Mail.{brought}
 use Rattle.mcs_explore_report.specs.Standings.{standings}
-use Rattle.mcs_explore_report.proofs.Lists.{at-last, at-old, at-split, at-within, some-same, within-at}
+use Rattle.mcs_explore_search.proofs.Places.{at-last, at-old, at-split, at-within, some-same, within-at}
 use Rattle.mcs_explore_report.proofs.Noting.{counted-back}
 use Rattle.mcs_explore_report.proofs.Telling.{Grows, for-grows, table-was, turn-grows}
 

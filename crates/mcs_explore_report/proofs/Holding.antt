@@ -32,7 +32,7 @@ use Rattle.mcs_explore_report.specs.Outcomes.{AreFirstPlaces, AreHeldBelow, IsHe
 use Rattle.mcs_explore_report.specs.Standings.{standings}
 use Rattle.mcs_explore_report.specs.Stuck.{AreDecided, IsLive, Noted}
 use Rattle.mcs_explore_report.specs.Verdicts.{HasEach, IsAlways, IsFoundIn, IsNotIn, IsSearched, answers_of, failed_at, is_said, lacks}
-use Rattle.mcs_explore_report.proofs.Lists.{at-within, some-same, within-at}
+use Rattle.mcs_explore_search.proofs.Places.{at-within, some-same, within-at}
 
 pub all-at : {A : Type 0} (f : A → Bool) (xs : List A) (i : ℕ) (x : A) → slice_get xs i ≡ Some x → list_all f xs ≡ true → f x ≡ true
 all-at f [] i x at all = absurd cc

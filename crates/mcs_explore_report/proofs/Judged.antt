@@ -12,7 +12,8 @@ use Rattle.mcs_explore_report.specs.Answers.{Tables}
 use Rattle.mcs_explore_report.specs.Ends.{Kind}
 use Rattle.mcs_explore_report.specs.Outcomes.{AddsJudged, AreHeldBelow, HasMissed, IsHeld, IsJudgedMore, all_hold, any_fails, are_live, count_lives, fails, holds, stuck_of}
 use Rattle.mcs_explore_report.specs.Verdicts.{failed_at}
-use Rattle.mcs_explore_report.proofs.Lists.{same-or-not, some-same}
+use Rattle.mcs_explore_search.proofs.Places.{some-same}
+use Rattle.mcs_explore_report.proofs.Lists.{same-or-not}
 
 or_parts : (a b : Bool) → (a || b) ≡ true → (a ≡ true) ⊎ (b ≡ true)
 or_parts true b h = inl refl

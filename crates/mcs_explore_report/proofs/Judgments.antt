@@ -12,7 +12,7 @@ use Rattle.mcs_explore_script.specs.declared.questions.AskedLine.{AskedLine}
 use Rattle.mcs_explore_report.specs.declared.judgement.Sighting.{Sighting}
 use Rattle.mcs_explore_report.specs.Judging.{fails}
 use Rattle.mcs_explore_report.specs.Judged.{AreJudged, AreJudgedBy, HasHeld, IsJudged, IsShownBy, judged}
-use Rattle.mcs_explore_report.proofs.Lists.{at-last, at-old, at-split, at-within, some-same, within-at}
+use Rattle.mcs_explore_search.proofs.Places.{at-last, at-old, at-split, at-within, some-same, within-at}
 
 -- more that was shown: what was shown before still is
 pub record IsMore (old new : Shown) : Type 0 where

@@ -29,7 +29,7 @@ use Rattle.mcs_turns.specs.Mail.{brought}
 use Rattle.mcs_explore_report.specs.Firsts.{HasGiven, IsStateBefore, IsTurnBefore}
 use Rattle.mcs_explore_report.specs.Kept.{IsKept}
 use Rattle.mcs_explore_report.specs.Found.{AreAnswersFound, AreCountedFound, AreEndsFound, AreJudgedFound, IsAnswerFound, IsAnswered, IsAt, IsEndFound, IsFailureFound, IsGiven, IsJudgedFound, IsMailFound, IsSeenFrom, AreFirstFound}
-use Rattle.mcs_explore_report.proofs.Lists.{at-last, at-old, at-split, within-at, some-same}
+use Rattle.mcs_explore_search.proofs.Places.{at-last, at-old, at-split, within-at, some-same}
 use Rattle.mcs_explore_report.proofs.Firsts.{answers-first, ends-first, state-failures, turn-failures}
 use Rattle.mcs_explore_report.proofs.Judgments.{judged-more, none-judged, state-look, turn-look}
 use Rattle.mcs_explore_report.proofs.Noting.{no-ends, state-noted}

@@ -1,39 +1,8 @@
--- Places in lists.
+-- Changed and equal lists.
 use Rattle.std.specs.Prelude.{ℕ, zero, suc, ◌≡◌, ◌<◌, ◌+◌, ◌++◌, ◌&&◌, ◌⊎◌, Bool, true, false, List, [], ◌∷◌, Some, drop, length, set, slice_get}
 use Rattle.std.specs.List.{list_all}
 use Rattle.std.proofs.Common.{refl, ap, ◌∙◌, inl, inr, arith}
-
-pub some-same : {A : Type 0} (x y : A) → Some x ≡ Some y → x ≡ y
-some-same x y e = cc
-
-pub at-old : {A : Type 0} (xs ys : List A) (i : ℕ) (x : A) → slice_get xs i ≡ Some x → slice_get (xs ++ ys) i ≡ Some x
-at-old [] ys i x h = absurd cc
-at-old (e ∷ xs) ys zero x h = h
-at-old (e ∷ xs) ys (suc i) x h = at-old xs ys i x h
-
-pub at-last : {A : Type 0} (xs : List A) (x : A) → slice_get (xs ++ x ∷ []) (length xs) ≡ Some x
-at-last [] x = refl
-at-last (e ∷ xs) x = at-last xs x
-
-pub at-within : {A : Type 0} (xs : List A) (i : ℕ) (x : A) → slice_get xs i ≡ Some x → i < length xs
-at-within [] i x h = absurd cc
-at-within (e ∷ xs) zero x h = omega arith
-at-within (e ∷ xs) (suc i) x h = let r = at-within xs i x h in omega (arith, r)
-
-pub within-at : {A : Type 0} (xs : List A) (i : ℕ) → i < length xs → (x : A) × (slice_get xs i ≡ Some x)
-within-at [] i h = absurd (omega (arith, h))
-within-at (e ∷ xs) zero h = (e, refl)
-within-at (e ∷ xs) (suc i) h = within-at xs i (omega (arith, h))
-
-pub at-split : {A : Type 0} (xs : List A) (y : A) (i : ℕ) (x : A) → slice_get (xs ++ y ∷ []) i ≡ Some x → (slice_get xs i ≡ Some x) ⊎ ((i ≡ length xs) × (x ≡ y))
-at-split [] y zero x h = inr (refl, cc)
-at-split [] y (suc i) x h = absurd cc
-at-split (e ∷ xs) y zero x h = inl h
-at-split (e ∷ xs) y (suc i) x h = go (at-split xs y i x h)
-  where
-    go : (slice_get xs i ≡ Some x) ⊎ ((i ≡ length xs) × (x ≡ y)) → (slice_get xs i ≡ Some x) ⊎ ((suc i ≡ suc (length xs)) × (x ≡ y))
-    go (inl a) = inl a
-    go (inr b) = inr (ap (λ n. suc n) b.0, b.1)
+use Rattle.mcs_explore_search.proofs.Places.{some-same}
 
 pub set-same : {A : Type 0} (xs : List A) (i : ℕ) (x v : A) → slice_get xs i ≡ Some x → slice_get (set xs i v) i ≡ Some v
 set-same [] i x v h = absurd cc

@@ -5,7 +5,8 @@ use Rattle.mcs_book.specs.Boots.{Boot}
 use Rattle.mcs_turns.specs.Turns.{User}
 use Rattle.mcs_explore_report.specs.declared.ends.Standing.{Standing}
 use Rattle.mcs_explore_report.specs.Ends.{AreAllEnds, AreMerged, AreMergedBelow, AreRunEnds, HasKind, IsKindAt, IsMerged, IsNotedIf, IsRunEnd, Kind, with_more}
-use Rattle.mcs_explore_report.proofs.Lists.{at-last, at-old, at-split, at-within, same-or-not, some-same}
+use Rattle.mcs_explore_search.proofs.Places.{at-last, at-old, at-split, at-within, some-same}
+use Rattle.mcs_explore_report.proofs.Lists.{same-or-not}
 use Rattle.mcs_explore_report.proofs.Noting.{counted-back, counted-there}
 
 at-of : (i : ℕ) (old new : List Kind) → old ≡ new → slice_get old i ≡ slice_get new i

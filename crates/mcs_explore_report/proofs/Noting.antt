@@ -6,7 +6,8 @@ use Rattle.mcs_explore_orders.specs.Shown.{SeenState}
 use Rattle.mcs_explore_report.specs.declared.ends.Standing.{Standing}
 use Rattle.mcs_explore_report.specs.Standings.{listed, standing_of, standings, standings_below}
 use Rattle.mcs_explore_report.specs.Ends.{AreEndsOf, IsCounted, IsEndOf, IsFirst, IsKindAt, IsNoKind, IsNoted, IsNotedIf, Kind, with_more}
-use Rattle.mcs_explore_report.proofs.Lists.{at-last, at-old, at-split, at-within, same-or-not, set-other, set-same, some-same}
+use Rattle.mcs_explore_search.proofs.Places.{at-last, at-old, at-split, at-within, some-same}
+use Rattle.mcs_explore_report.proofs.Lists.{same-or-not, set-other, set-same}
 
 -- counting changes counts alone
 pub counted-back : (ks : List Kind) (i : ℕ) (x : Kind) (c : ℕ) → slice_get ks i ≡ Some x → (j : ℕ) (k : Kind) → slice_get (set ks i (with_more x c)) j ≡ Some k → (l : Kind) × ((slice_get ks j ≡ Some l) × ((l.standing ≡ k.standing) × (l.place ≡ k.place)))

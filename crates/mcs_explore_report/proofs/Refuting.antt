@@ -27,7 +27,8 @@ use Rattle.mcs_explore_report.specs.Standings.{standings}
 use Rattle.mcs_explore_report.specs.Stuck.{AreStuckUnled, Noted}
 use Rattle.mcs_explore_report.specs.Verdicts.{IsAlways, IsFoundIn, IsSearched, IsWithout, answers_of, failed_at, lacks}
 use Rattle.mcs_explore_report.proofs.Holding.{all-said, at-run, said-once}
-use Rattle.mcs_explore_report.proofs.Lists.{at-within, some-not, some-same, within-at}
+use Rattle.mcs_explore_search.proofs.Places.{at-within, some-same, within-at}
+use Rattle.mcs_explore_report.proofs.Lists.{some-not}
 use Rattle.mcs_explore_report.proofs.Stuck.{first-marks-long}
 
 some-of : {A : Type 0} (o : Option A) → is_none o ≡ false → (x : A) × (o ≡ Some x)

@@ -22,7 +22,7 @@ use Rattle.mcs_explore_report.specs.Judging.{IsDecided, fails}
 use Rattle.mcs_explore_report.specs.Standings.{standings}
 use Rattle.mcs_explore_report.proofs.HeldRuns.{state-same, then_h, there, turn-same}
 use Rattle.mcs_explore_report.proofs.KeptRuns.{answered-there, mailed-there, standings-same}
-use Rattle.mcs_explore_report.proofs.Lists.{within-at}
+use Rattle.mcs_explore_search.proofs.Places.{within-at}
 
 -- what is in an earlier place was found by no more turns
 depth-in : {K : Type 0} (found : Entries K Turn) (i : ℕ) (k : K) (f : Found Turn) → slice_get found i ≡ Some (k, f) → depth_at found i ≡ f.depth

@@ -5,7 +5,8 @@ use Rattle.std.proofs.lemmas.List.{length-append}
 use Rattle.mcs_types.specs.declared.id.ObjId.{ObjId}
 use Rattle.mcs_book.specs.Logs.{Log}
 use Rattle.mcs_explore_report.specs.Origins.{AreSo, HasNone, HaveNone, cnode, has_cap}
-use Rattle.mcs_explore_report.proofs.Lists.{at-split, same-or-not, some-same}
+use Rattle.mcs_explore_search.proofs.Places.{at-split, some-same}
+use Rattle.mcs_explore_report.proofs.Lists.{same-or-not}
 
 -- one slot more
 pub none-next : (R : Log) (o c : ObjId) (n : ℕ) → has_cap R o c n ≡ false → HasNone R o c n → HasNone R o c (n + 1)

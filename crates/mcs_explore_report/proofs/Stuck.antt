@@ -32,7 +32,8 @@ use Rattle.mcs_turns.specs.Mail.{brought}
 use Rattle.mcs_explore_report.proofs.HeldRuns.{answered-same, places-same, same, step, then_g, then_h, there}
 use Rattle.mcs_explore_report.proofs.Keeping.{at-paths, paths-long, made-from}
 use Rattle.mcs_explore_report.proofs.KeptRuns.{brought-same}
-use Rattle.mcs_explore_report.proofs.Lists.{at-within, from-on, some-same, within-at}
+use Rattle.mcs_explore_search.proofs.Places.{at-within, some-same, within-at}
+use Rattle.mcs_explore_report.proofs.Lists.{from-on}
 
 -- marks that are put in places
 marks-long : (ps : List ℕ) (marks : List Bool) → length (with_marks ps marks) ≡ length marks

@@ -18,7 +18,8 @@ use Rattle.mcs_explore_report.specs.declared.answers.Witness.{Witness}
 use Rattle.mcs_turns.specs.declared.reached.Reached.{Reached}
 use Rattle.mcs_turns.specs.Mail.{brought, got_with, listed, reached_from, reaching}
 use Rattle.mcs_explore_report.specs.Answers.{AreAnswersOf, AreMailOf, AreNotedMail, IsAmong, IsAnswerOf, IsChangedAt, IsEntry, IsMailed, IsNoted, IsNotedFor, IsNotedIn, IsNotedMail, IsNotedOf, IsNotedTurn, Tables, mailed_to, no_answers, table_of}
-use Rattle.mcs_explore_report.proofs.Lists.{at-last, at-old, at-split, from-on, same-or-not, set-other, set-same, some-same}
+use Rattle.mcs_explore_search.proofs.Places.{at-last, at-old, at-split, some-same}
+use Rattle.mcs_explore_report.proofs.Lists.{from-on, same-or-not, set-other, set-same}
 
 -- what was changed in a place
 module _ {A : Type 0} (Change : A → A → Type 0) (i : ℕ) (old new : List A) where

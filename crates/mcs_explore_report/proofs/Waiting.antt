@@ -19,7 +19,7 @@ use Rattle.mcs_explore_walk.specs.declared.walk.Turn.{Turn}
 use Rattle.mcs_turns.specs.declared.reached.Reached.{Reached}
 use Rattle.mcs_explore_script.specs.UserLists.{user_of}
 use Rattle.mcs_explore_report.specs.Answers.{IsEntry, IsMailed, comes_to, mailed_to, waiting}
-use Rattle.mcs_explore_report.proofs.Lists.{some-same}
+use Rattle.mcs_explore_search.proofs.Places.{some-same}
 
 -- what is in a list where another was put
 put-in : {A : Type 0} (k : ℕ) (x : A) (ys : List A) (i : ℕ) (y : A) → slice_get (put_at k x ys) i ≡ Some y → ((i ≡ k) × (y ≡ x)) ⊎ (slice_get ys i ≡ Some y)

@@ -10,7 +10,7 @@ use mcs_types::{Answer, Badge, Message};
 use std::alloc::Global;
 
 /// Appends bytes to a text.
-fn put(text: &mut Vec<u8>, bytes: &[u8]) -> Result<(), LabFault>
+pub fn put(text: &mut Vec<u8>, bytes: &[u8]) -> Result<(), LabFault>
     ensures { OnOk result (text.new.items ≡ text.old.items ++ bytes.now) }
 {
     text.extend_from_slice(bytes)?;

@@ -3,7 +3,7 @@ ghost use Rattle.std.specs.Prelude.{◌≡◌, ◌==◌, ◌&&◌, ◌+◌, ◌-
 ghost use Rattle.std.specs.List.{list_all, list_any};
 ghost use Rattle.mcs_book.specs.History.{line_of_number, log_of};
 ghost use Rattle.mcs_book.specs.Messages.{next_message};
-ghost use Rattle.mcs_sim.specs.Trace.{sent_after, sent_with};
+ghost use Rattle.mcs_sim.specs.Trace.{sent_after};
 ghost use Rattle.mcs_explore_report.specs.Judging.{answered, answered_by, bare, ended_by, fails, fails_by, fails_in, gave_by, given_by, gives, has_given, is_at, is_in, is_line, is_within, line_texts, record_lines, last_texts};
 ghost use Rattle.mcs_explore_report.specs.Judged.{AreJudgedBy, judged};
 
@@ -13,6 +13,7 @@ use mcs_explore_questions::{Asked, Event, Span, Until, is_match};
 use mcs_explore_script::AskedLine;
 use mcs_explore_walk::newest;
 use mcs_kernel::Kernel;
+use mcs_lab_check::with_sent;
 use mcs_packing::KeptRecord;
 use mcs_queues::PlainLines;
 use mcs_trace::{Line, spell_answer, spell_record};
@@ -140,14 +141,6 @@ fn has_given(users: &Users, walk: &Walk<PlainLines>, event: Event) -> bool
         },
         None => false,
     }
-}
-
-/// Returns how many messages were sent once this record is added.
-fn with_sent(sent: u128, fact: &KeptRecord<'_>) -> u128
-    requires { sent + 1 < 2 ^ 128 }
-    ensures { result ≡ sent_with sent fact.now }
-{
-    if fact.is_sent() { sent + 1 } else { sent }
 }
 
 /// Returns how many messages a line sent.

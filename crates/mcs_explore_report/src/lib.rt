@@ -35,7 +35,7 @@ mod text;
 mod verdicts;
 mod watcher;
 
-pub use answer_texts::text_of;
+pub use answer_texts::{put, text_of};
 pub use answers::{Answers, Witness};
 pub use endings::{Ending, are_idle, ending_of};
 pub use ends::{End, Ends, Standing};

@@ -29,7 +29,8 @@ use Rattle.mcs_explore_report.specs.Judging.{fails}
 use Rattle.mcs_explore_report.specs.Standings.{standings}
 use Rattle.mcs_explore_report.specs.Verdicts.{IsAlways, IsFoundIn, IsSearched, IsWithout, answers_of, failed_at, lacks}
 use Rattle.std.proofs.lemmas.Option.{slice_get_within}
-use Rattle.mcs_explore_report.proofs.Lists.{some-not, within-at}
+use Rattle.mcs_explore_search.proofs.Places.{within-at}
+use Rattle.mcs_explore_report.proofs.Lists.{some-not}
 use Rattle.mcs_explore_run.specs.Samples.{HasShownFailure, IsKeptOfRuns, IsShownToFail}
 
 module _ (s : UserScript) (kinds : List Kind) (tables : Tables) (failed : List (Option Sighting)) (of : IsKeptOfRuns s.users s.boot s.asked.items kinds tables failed) where

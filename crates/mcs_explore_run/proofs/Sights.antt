@@ -9,7 +9,7 @@ use Rattle.mcs_explore_walk.specs.declared.walk.Turn.{Turn}
 use Rattle.mcs_explore_walk.specs.Walks.{last_answer}
 use Rattle.mcs_explore_orders.specs.Shown.{Made, SeesState, SeesTurn, Shown, SeenState, nothing, with_state, with_turn}
 use Rattle.mcs_explore_orders.specs.Trails.{Leads}
-use Rattle.mcs_explore_report.proofs.Lists.{at-split}
+use Rattle.mcs_explore_search.proofs.Places.{at-split}
 use Rattle.mcs_explore_run.specs.Samples.{AreOfRuns, IsFromRun, IsOfRun, SeesFrom}
 
 -- what holds after each call holds after one that returned Ok

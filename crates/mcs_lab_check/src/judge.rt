@@ -64,7 +64,7 @@ fn is_answer(seen: &mut Text, line: Option<Line<'_>>, text: &[u8]) -> bool
 }
 
 /// Returns how many messages were sent after one more record.
-fn with_sent(sent: u128, fact: &KeptRecord<'_>) -> u128
+pub fn with_sent(sent: u128, fact: &KeptRecord<'_>) -> u128
     requires { sent + 1 < 2 ^ 128 }
     ensures { result ≡ sent_with sent fact.now }
 {

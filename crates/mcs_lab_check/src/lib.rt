@@ -21,7 +21,7 @@ pub use checker::check;
 pub use fault::LabFault;
 pub use flaw::{Flaw, flaw_of};
 pub use input::{TakesLines, take_lines};
-pub use judge::{Judge, entrant_of};
+pub use judge::{Judge, entrant_of, with_sent};
 pub use last::{Last, LineResult};
 pub use names::{Labels, Named};
 pub use outcome::Outcome;

@@ -7,14 +7,12 @@ use crate::graphs::{self, Graphed};
 use crate::orders::{self, Sought};
 use crate::pictures::{self, Drawn};
 use crate::walks::{self, Chance};
-use crate::{manual, renaming};
+use crate::{manual, trace_names};
 use clap::builder::ValueParser;
 use clap::{Arg, ArgAction, ArgMatches, Command as Words, Error};
+use mcs_command_line::VERSION;
 use mcs_lab_inspect::{Numbers, Wanted};
 use std::alloc::Global;
-
-/// The version of the program (own).
-const VERSION: &str = "0.1.0";
 
 /// The option for numbers as texts.
 const STRINGS: &str = "json-strings";

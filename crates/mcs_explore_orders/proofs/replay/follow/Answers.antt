@@ -3,7 +3,7 @@ use Rattle.std.proofs.Common.{arith, subst, sym}
 use Rattle.mcs_explore_search.specs.Paths.{Path}
 use Rattle.mcs_explore_walk.specs.declared.walk.Turn.{Turn}
 use Rattle.mcs_explore_orders.specs.Trails.{Leads}
-use Rattle.mcs_explore_orders.proofs.Paths.{or-at}
+use Rattle.mcs_explore_walk.proofs.Turning.{or-at}
 use Rattle.mcs_explore_orders.proofs.Nexts.{take-all}
 use Rattle.mcs_explore_orders.proofs.Reaching.{path-next, reached-on}
 use Rattle.mcs_explore_orders.proofs.replay.follow.Goals as goal

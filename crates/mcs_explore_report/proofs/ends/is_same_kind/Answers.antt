@@ -1,6 +1,7 @@
 use Rattle.std.specs.Prelude.{◌≡◌, ◌<◌, length}
 use Rattle.std.proofs.Common.{arith, refl}
-use Rattle.mcs_explore_report.proofs.Lists.{at-within, same-lists}
+use Rattle.mcs_explore_search.proofs.Places.{at-within}
+use Rattle.mcs_explore_report.proofs.Lists.{same-lists}
 use Rattle.mcs_explore_report.proofs.ends.is_same_kind.Goals as goal
 
 pub returns : goal.returns

@@ -1,7 +1,7 @@
 use Rattle.std.proofs.Common.{◌<◌, length, arith}
 use Rattle.mcs_explore_report.specs.Outcomes.{are_live}
 use Rattle.mcs_explore_report.proofs.Judged.{judged-next, missed-next}
-use Rattle.mcs_explore_report.proofs.Lists.{within-at}
+use Rattle.mcs_explore_search.proofs.Places.{within-at}
 use Rattle.mcs_explore_report.proofs.report.all_judged.Goals as goal
 
 pub loop-number-preserved : goal.loop-number-preserved

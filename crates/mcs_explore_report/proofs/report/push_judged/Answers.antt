@@ -2,7 +2,7 @@ use Rattle.std.proofs.Common.{◌≡◌, true, false, refl, ap, sym, ◌∙◌}
 use Rattle.std.proofs.lemmas.Option.{slice_get_read}
 use Rattle.mcs_explore_questions.specs.Asking.{is_question}
 use Rattle.mcs_explore_script.specs.declared.questions.AskedLine.{AskedLine}
-use Rattle.mcs_explore_report.proofs.Lists.{some-same}
+use Rattle.mcs_explore_search.proofs.Places.{some-same}
 use Rattle.mcs_explore_report.proofs.report.push_judged.Goals as goal
 
 pub returns-in_ok-push : goal.returns-in_ok-push

@@ -3,7 +3,8 @@ use Rattle.std.proofs.Common.{ap, refl, sym, ◌∙◌, inl, inr, arith}
 use Rattle.std.proofs.lemmas.Option.{slice_get_read}
 use Rattle.mcs_explore_report.specs.declared.answers.Witness.{Witness}
 use Rattle.mcs_explore_report.specs.Verdicts.{IsNotIn, is_said}
-use Rattle.mcs_explore_report.proofs.Lists.{same-or-not, some-same}
+use Rattle.mcs_explore_search.proofs.Places.{some-same}
+use Rattle.mcs_explore_report.proofs.Lists.{same-or-not}
 use Rattle.mcs_explore_report.proofs.verdicts.find_answer.Goals as goal
 
 -- one answer more that is not so

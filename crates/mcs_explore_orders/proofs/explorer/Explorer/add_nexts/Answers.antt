@@ -5,7 +5,7 @@ use Rattle.mcs_explore_orders.specs.Shown.{HasCounted, Tells}
 use Rattle.mcs_explore_orders.specs.Watching.{counting}
 use Rattle.mcs_explore_walk.specs.declared.walk.Turn.{Turn}
 use Rattle.mcs_explore_orders.specs.Later.{goes-further, goes-itself}
-use Rattle.mcs_explore_orders.proofs.Paths.{or-at}
+use Rattle.mcs_explore_walk.proofs.Turning.{or-at}
 use Rattle.mcs_explore_orders.proofs.Nexts.{next-more, no-nexts, take-all}
 use Rattle.mcs_explore_orders.proofs.Telling.{nothing-reported, tells-more}
 use Rattle.mcs_explore_orders.proofs.explorer.Explorer.add_nexts.Goals as goal

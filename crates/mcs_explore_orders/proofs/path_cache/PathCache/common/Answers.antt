@@ -2,7 +2,8 @@ use Rattle.std.specs.Prelude.{◌≡◌, ◌<◌, ◌≤◌, ◌+◌, ◌++◌, 
 use Rattle.std.proofs.Common.{refl, ap, sym, subst, arith, ◌∙◌}
 use Rattle.mcs_explore_walk.specs.declared.walk.Turn.{Turn}
 use Rattle.mcs_explore_orders.specs.Trails.{Point, Points}
-use Rattle.mcs_explore_orders.proofs.Paths.{common-on, or-at}
+use Rattle.mcs_explore_walk.proofs.Turning.{or-at}
+use Rattle.mcs_explore_orders.proofs.Paths.{common-on}
 use Rattle.mcs_explore_orders.proofs.path_cache.PathCache.common.Goals as goal
 
 pub loop-index-preserved : goal.loop-index-preserved

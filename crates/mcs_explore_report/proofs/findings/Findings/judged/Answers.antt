@@ -4,7 +4,7 @@ use Rattle.mcs_explore_script.specs.declared.questions.AskedLine.{AskedLine}
 use Rattle.mcs_explore_report.specs.Outcomes.{stuck_of}
 use Rattle.mcs_explore_report.specs.Verdicts.{IsVerdict, failed_at}
 use Rattle.mcs_explore_report.proofs.Judged.{stuck_not_live}
-use Rattle.mcs_explore_report.proofs.Lists.{some-same}
+use Rattle.mcs_explore_search.proofs.Places.{some-same}
 use Rattle.mcs_explore_report.proofs.findings.Findings.judged.Goals as goal
 
 pub returns-clause-missed : goal.returns-clause-missed
