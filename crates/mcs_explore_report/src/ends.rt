@@ -170,7 +170,7 @@ fn push(standing: &mut Vec<Standing>, stands: Option<Standing>) -> Result<(), Or
 }
 
 /// Returns the users that are not done, with their states.
-fn standings(
+pub fn standings(
     alloc: Global,
     users: &Users,
     walk: &Walk<PlainLines>,

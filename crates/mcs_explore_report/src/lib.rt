@@ -38,7 +38,7 @@ mod watcher;
 pub use answer_texts::{put, text_of};
 pub use answers::{Answers, Witness};
 pub use endings::{Ending, are_idle, ending_of};
-pub use ends::{End, Ends, Standing};
+pub use ends::{End, Ends, Standing, standings};
 pub use exploration::{Wanted, are_in_range, watched};
 pub use judgement::Sighting;
 pub use live::{Lives, Notes, stuck_at};
