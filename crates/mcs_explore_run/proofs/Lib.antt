@@ -1,4 +1,4 @@
-mod Draws
+mod DrawLaws
 mod Failing
 mod Judging
 mod Lengths

@@ -1,6 +1,6 @@
 pub mod Adding
 pub mod Addresses
-pub mod Limits
+pub mod LimitLaws
 pub mod MoreRows
 pub mod Most
 pub mod Parts

@@ -183,7 +183,7 @@ impl PlanLayout {
     }
 
     /// Adds the lines that make the threads.
-    #[tactic(auto, using(crate::proofs::Limits::housed_at))]
+    #[tactic(auto, using(crate::proofs::LimitLaws::housed_at))]
     fn make_threads(&self, to: &mut Vec<BootLine>) -> Result<(), AllocError>
         requires { are_housed self.now.plan.threads.items ≡ true }
         ensures { OnOk result (to.new.items ≡
@@ -220,7 +220,7 @@ impl PlanLayout {
     }
 
     /// Adds the lines that fill the slots of a space.
-    #[tactic(auto, using(crate::proofs::Limits::leaf_within))]
+    #[tactic(auto, using(crate::proofs::LimitLaws::leaf_within))]
     fn add_slots(&self, to: &mut Vec<BootLine>, site: Site, space: &Space) -> Result<(), AllocError>
         requires within { IsWithin site }
         requires leaves { site.leaves ≡ leaves_of space.now }

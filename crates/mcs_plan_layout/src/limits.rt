@@ -21,7 +21,7 @@ fn too_many(kind: Kind) -> PlanError
 }
 
 /// Fails with `Limit` if the plan has more than 64 CNodes.
-#[tactic(auto, using(crate::proofs::Limits::few_said))]
+#[tactic(auto, using(crate::proofs::LimitLaws::few_said))]
 fn has_few_cnodes(plan: &Plan) -> Result<(), PlanError>
     ensures few { OnOk result (HasFewCNodes plan.now) }
     ensures ok { OnOk result (may_be kind.CNode (cnodes_of (said plan.now)) ≡ Ok tt) }

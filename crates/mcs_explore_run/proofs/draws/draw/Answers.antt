@@ -2,7 +2,7 @@ use Rattle.std.specs.Prelude.{◌≤◌, length, slice_index_or}
 use Rattle.std.proofs.Common.{arith}
 use Rattle.mcs_explore_walk.specs.declared.walk.Turn.{Turn}
 use Rattle.mcs_explore_walk.proofs.Turning.{none-first, none-over, or-at}
-use Rattle.mcs_explore_run.proofs.Draws.{drawn-next, over-none}
+use Rattle.mcs_explore_run.proofs.DrawLaws.{drawn-next, over-none}
 use Rattle.mcs_explore_run.proofs.draws.draw.Goals as goal
 
 pub loop-index-init : goal.loop-index-init

@@ -1,4 +1,4 @@
-use Rattle.mcs_explore_run.proofs.Draws.{IsDrawnBelow}
+use Rattle.mcs_explore_run.proofs.DrawLaws.{IsDrawnBelow}
 use Rattle.mcs_explore_run.proofs.draws.draw.Given as goal
 
 abbrev pub invariant-loop-index : goal.invariant-loop-index
