@@ -1,3 +1,2 @@
-pub mod Adding
 pub mod Audit
 pub mod Fresh

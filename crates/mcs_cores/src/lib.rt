@@ -8,7 +8,6 @@ mod machine;
 mod positions;
 mod run;
 mod shared;
-mod users;
 
 pub use gate::{Gate, Open};
 pub use machine::{Machine, SeatsFault};
@@ -16,5 +15,5 @@ pub use mcs_seats::{
     Answered, Call, CoreSeat, FinishFault, Outcome, Settled, Turned, entered_lines,
     entered_of_core, settle_seats,
 };
+pub use mcs_users::Users;
 pub use run::RunFault;
-pub use users::Users;

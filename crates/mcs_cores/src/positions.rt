@@ -1,15 +1,14 @@
 //! The positions of a run's users, what they can enter, and which cores wait (own).
-ghost use Rattle.std.specs.Prelude.{◌+◌, ◌<◌, ◌^◌};
 
 use crate::candidates::{Candidate, Candidates, Turn};
 use crate::core_set::CoreSet;
 use crate::machine::LockedKernel;
-use crate::users::{UserList, Users};
 use mcs_kernel::{Kernel, is_ready};
 use mcs_queues::Lines;
 use mcs_seats::{Answered, CoreSeat, Prepared, Turned};
 use mcs_turns::Position;
 use mcs_types::{CoreId, ObjId, OutOfMemory};
+use mcs_users::{UserList, Users, first_place, place_after};
 use std::alloc::Global;
 use std::sync::ledger::Ledger;
 
@@ -36,7 +35,7 @@ impl UserPosition {
         UserPosition {
             thread: list.thread,
             entries: list.entries.len(),
-            place: Position::start(),
+            place: first_place(list),
             moves: 0,
         }
     }
@@ -104,20 +103,21 @@ impl Positions {
     pub(crate) fn enter<G: Ledger, L: Lines>(
         &mut self,
         alloc: Global,
+        users: &Users,
         kernel: &mut LockedKernel<G, L>,
         seat: &mut CoreSeat<G>,
         turn: Turn,
         prepared: Prepared,
-    ) -> Option<Result<Answered, Turned>>
-        requires { turn.number + 1 < 2 ^ 64 }
-    {
+    ) -> Option<Result<Answered, Turned>> {
+        let list = users.at(turn.user)?;
         let position = self.users.get_mut(turn.user)?;
-        if position.moves != turn.moves {
+        if position.moves != turn.moves || list.entries.len() <= turn.number {
             return None;
         }
-        let result = kernel.enter(alloc, seat, turn.thread, prepared);
+        let saved = position.place.saved;
+        let result = kernel.enter(alloc, seat, list.thread, prepared);
         if let Ok(answered) = &result {
-            position.move_to(Position::past(turn.number, &answered.answer));
+            position.move_to(place_after(list, turn.number, saved, &answered.answer));
         }
         Some(result)
     }

@@ -1,5 +1,5 @@
 //! A run: each core enters the users' entries by a host thread of its own (own).
-ghost use Rattle.std.specs.Prelude.{◌≡◌, ◌≤◌, ◌<◌, ◌+◌, ◌^◌, vec_len, vec_capacity};
+ghost use Rattle.std.specs.Prelude.{◌≡◌, ◌≤◌, vec_len, vec_capacity};
 
 use crate::candidates::Turn;
 use crate::core_set::CoreSet;
@@ -7,11 +7,11 @@ use crate::gate::Gate;
 use crate::machine::Machine;
 use crate::positions::Positions;
 use crate::shared::{Next, SharedPositions};
-use crate::users::Users;
 use mcs_kernel::{EnterFault, Kernel};
 use mcs_queues::Lines;
 use mcs_seats::{Answered, CoreSeat, Prepared, Turned};
-use mcs_types::{CORES, CoreId, OutOfMemory};
+use mcs_types::{CORES, CoreId, Entry, OutOfMemory};
+use mcs_users::Users;
 use std::alloc::Global;
 use std::sync::Wait;
 use std::sync::ledger::Ledger;
@@ -44,6 +44,11 @@ type Done<G> = (CoreSeat<G>, Result<(), RunFault>);
 
 /// The handles of the cores' host threads.
 type Running<G> = Vec<thread::JoinHandle<Done<G>>>;
+
+/// Returns an entry of a user, by the numbers of both from 0.
+fn entry_of(users: &Users, user: usize, number: usize) -> Option<&Entry> {
+    users.at(user)?.at(number)
+}
 
 /// Returns whether a skipped entry ends the run. If the kernel skipped it because its thread may
 /// not enter, the core picks again.
@@ -132,14 +137,19 @@ impl<G: Ledger, L: Lines, T: Gate> RunContext<'_, G, L, T> {
         seat: &mut CoreSeat<G>,
         turn: Turn,
         prepared: Prepared,
-    ) -> (Option<Result<Answered, Turned>>, Next)
-        requires { turn.number + 1 < 2 ^ 64 }
-    {
+    ) -> (Option<Result<Answered, Turned>>, Next) {
         let core = seat.core();
         let (entered, next, notified) = {
             let mut positions = self.shared.positions.lock(rt);
             let mut kernel = self.machine.lock(rt);
-            let entered = positions.enter(self.alloc, &mut kernel, seat, turn, prepared);
+            let entered = positions.enter(
+                self.alloc,
+                self.users,
+                &mut kernel,
+                seat,
+                turn,
+                prepared,
+            );
             let (next, notified) = self.look(rt, &mut positions, kernel.kernel(), core);
             (entered, next, notified)
         };
@@ -149,7 +159,7 @@ impl<G: Ledger, L: Lines, T: Gate> RunContext<'_, G, L, T> {
 
     /// Enters what the core picked, and calls the gate if it was accepted.
     fn give<R: Wait>(&self, rt: &R, seat: &mut CoreSeat<G>, turn: Turn) -> Result<Next, RunFault> {
-        let Some(entry) = self.users.entry(turn.user, turn.number) else {
+        let Some(entry) = entry_of(self.users, turn.user, turn.number) else {
             return Ok(self.begin(rt, seat.core()));
         };
         let Ok(entry) = entry.copy(self.alloc) else {

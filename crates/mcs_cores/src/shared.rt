@@ -3,8 +3,8 @@
 use crate::candidates::Turn;
 use crate::core_set::CoreSet;
 use crate::positions::Positions;
-use crate::users::Users;
 use mcs_types::{CORES, CoreId, OutOfMemory};
+use mcs_users::Users;
 use std::alloc::Global;
 use std::sync::{Condvar, Mutex, Wait};
 
