@@ -314,20 +314,20 @@ fn run_all<G: Ledger + Send + Sync, L: Lines + Send + Sync, T: Gate, R: Threads 
 }
 
 impl<G: Ledger + Send + Sync, L: Lines + Send + Sync> Machine<G, L> {
-    /// Works off the users' lists, each core by a host thread of its own, until no thread that may
-    /// run has entries left; an entry that is to be retried counts among them (own). A core picks
-    /// its thread of greatest priority, then of lowest serial, among those with entries left; it
-    /// gives the thread's next entry, or its last one again where that was answered Waits and the
-    /// thread was restarted. Where the user gave another entry meanwhile, nothing is entered, and
-    /// after that, as after an entry that was skipped, the core picks anew. The gate is called
-    /// between the pick and the entry, and after an entry that was accepted. There has to be a seat
-    /// for each core of the machine: for a core without one, which has entries left, the others
-    /// wait.
+    /// Runs the users' lists, each core on a host thread of its own, until no thread that can run
+    /// has entries left; an entry that is to be repeated counts among them (own). A core picks its
+    /// thread of greatest priority, then of lowest serial, among those with entries left. It gives
+    /// the thread's next entry, or its last one again if that was answered Waits and the thread was
+    /// restarted. If the user's position changed since the pick, the core enters nothing and picks
+    /// again, as it does after a skipped entry. The gate is called between the pick and the entry,
+    /// and after an entry that was accepted. Each core of the machine needs a seat: for a core
+    /// without one that has entries left, the others wait. Programs and schedules of users are not
+    /// followed.
     ///
-    /// All seats come back but those whose thread could not be started. BookFull (1) where the book
-    /// has no room for an entry, OutOfMemory (2) if an allocation fails, NoThread (3) where a
-    /// thread could not be started: of several faults that of the lowest core. The other cores then
-    /// stop at their next turn.
+    /// Returns all seats but those whose thread could not be started. BookFull (1) if the book has
+    /// no room for an entry, OutOfMemory (2) if an allocation fails, NoThread (3) if a thread could
+    /// not be started; of several faults that of the lowest core. The other cores then stop at
+    /// their next turn.
     pub fn run<R: Threads + Wait + Sync, T: Gate>(
         &self,
         rt: &R,
