@@ -93,7 +93,7 @@ fn ending_of(
     Ok(check_ending(Ok(met)))
 }
 
-/// Checks a script, and returns the verdicts and how the call ends.
+/// Checks a script, and returns the verdicts and how the C call ends.
 pub(crate) fn check_text(alloc: Global, script: &[u8]) -> Result<Handed, OutOfMemory>
     ensures { IfOk result (λ h. IsChecked script.now h.ending) }
 {

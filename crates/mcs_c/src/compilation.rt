@@ -57,7 +57,7 @@ fn whole_text(compiled: Compiled) -> Result<Vec<u8>, OutOfMemory>
     Ok(text)
 }
 
-/// Returns a line that says why a plan does not compile, and how the call ends.
+/// Returns a line that says why a plan does not compile, and how the C call ends.
 pub(crate) fn refuse_with(
     alloc: Global,
     fault: &CompileFault,
@@ -70,7 +70,7 @@ pub(crate) fn refuse_with(
     Ok(Handed { text, ending })
 }
 
-/// Returns a line that says why a plan does not compile, with how the call ends.
+/// Returns a line that says why a plan does not compile, and how the C call ends.
 pub(crate) fn refuse(
     alloc: Global,
     plan: &[u8],
@@ -82,7 +82,7 @@ pub(crate) fn refuse(
     refuse_with(alloc, fault, line.as_str())
 }
 
-/// Compiles a plan, and returns the script, or why there is none, and how the call ends.
+/// Compiles a plan, and returns the script, or why there is none, and how the C call ends.
 fn compile_text(alloc: Global, plan: &[u8]) -> Result<Handed, OutOfMemory>
     ensures { IfOk result (λ h. IsCompiled h.text.items h.ending) }
 {
@@ -107,7 +107,7 @@ fn lines_of(alloc: Global, numbers: &[u64]) -> Result<Vec<u8>, OutOfMemory> {
 }
 
 /// Compiles a plan, and returns for each line of the script the plan's line from which it came, or
-/// why there is no script, and how the call ends.
+/// why there is no script, and how the C call ends.
 fn number_text(alloc: Global, plan: &[u8]) -> Result<Handed, OutOfMemory>
     ensures { IfOk result (λ h. IsNumbered h.ending) }
 {

@@ -61,7 +61,7 @@ fn fault_ending(fault: &ExploreFault) -> Ending
     }
 }
 
-/// Returns a line that says why a script is not explored to the end, with how the call ends.
+/// Returns a line that says why a script is not explored to the end, and how the C call ends.
 fn refuse(alloc: Global, fault: &ExploreFault) -> Result<Handed, OutOfMemory>
     ensures ends { IfOk result (λ h. h.ending ≡ explore_fault_ending fault.now) }
     ensures granted { IfOk result (λ h. h.ending.status ≡ 6 → ⊥) }
@@ -120,7 +120,7 @@ impl Saves for Kept {
 }
 
 /// Searches all orders of a script, up to `states` states, and returns the report, or why there is
-/// none, and how the call ends.
+/// none, and how the C call ends.
 pub(crate) fn explore_text<S: Saves>(
     alloc: Global,
     script: &[u8],

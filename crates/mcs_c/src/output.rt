@@ -75,7 +75,7 @@ impl Ending {
     }
 }
 
-/// A whole text, and how the call ends that wrote it.
+/// A whole text, and how the C call that wrote it ends.
 #[derive(Drop)]
 pub(crate) struct Handed {
     pub(crate) text: Vec<u8>,

@@ -21,8 +21,8 @@ fn form_of(status: u32) -> Form {
     }
 }
 
-/// Goes through all orders of the script of a plan, and returns the report, or why there is none,
-/// with how the call ends.
+/// Explores all orders of the script of a plan. Returns the report, or why there is none, and how
+/// the C call ends.
 #[tactic(auto, using(crate::proofs::Planned::script_explored))]
 fn explore_script<S: Saves>(
     alloc: Global,

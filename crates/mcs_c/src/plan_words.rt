@@ -51,7 +51,7 @@ pub(crate) fn reworded(
     Ok(Handed { text, ending })
 }
 
-/// Returns a line that says so, with how the call ends, where a plan became a script that another
+/// Returns a line that says so, and how the C call ends, where a plan became a script that another
 /// call reads.
 pub(crate) fn turned_away(
     alloc: Global,

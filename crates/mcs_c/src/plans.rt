@@ -16,7 +16,7 @@ use mcs_plan_words::{Form, Planned, bail_line};
 use mcs_types::OutOfMemory;
 use std::alloc::Global;
 
-/// Checks the script of a plan, and returns the verdicts, with how the call ends.
+/// Checks the script of a plan, and returns the verdicts, and how the C call ends.
 #[tactic(auto, using(crate::proofs::Planned::script_checked))]
 fn check_script(alloc: Global, planned: &Planned<'_>) -> Result<Handed, OutOfMemory>
     requires { IsScriptOfPlan planned.now.script.text.items }
@@ -30,7 +30,7 @@ fn check_script(alloc: Global, planned: &Planned<'_>) -> Result<Handed, OutOfMem
     reworded(alloc, planned, script, &report, Form::Tap)
 }
 
-/// Returns the last line of verdicts on a plan of which no script comes, with how the call ends.
+/// Returns the last line of verdicts on a plan of which no script comes, and how the C call ends.
 fn bail_out(alloc: Global, plan: &[u8], fault: &CompileFault) -> Result<Handed, OutOfMemory>
     ensures { IfOk result (λ h. IsPlanChecked h.ending) }
 {
@@ -38,7 +38,7 @@ fn bail_out(alloc: Global, plan: &[u8], fault: &CompileFault) -> Result<Handed, 
     refuse_with(alloc, fault, line.as_str())
 }
 
-/// Checks a plan, and returns the verdicts, with how the call ends.
+/// Checks a plan, and returns the verdicts, and how the C call ends.
 fn check_plan(alloc: Global, plan: &[u8]) -> Result<Handed, OutOfMemory>
     ensures { IfOk result (λ h. IsPlanChecked h.ending) }
 {
@@ -48,7 +48,7 @@ fn check_plan(alloc: Global, plan: &[u8]) -> Result<Handed, OutOfMemory>
     }
 }
 
-/// Explains the script of a plan, and returns the text, with how the call ends.
+/// Explains the script of a plan, and returns the text, and how the C call ends.
 #[tactic(auto, using(crate::proofs::Planned::script_reported))]
 fn explain_script(alloc: Global, planned: &Planned<'_>) -> Result<Handed, OutOfMemory>
     ensures { IfOk result (λ h. IsPlanReported h.ending) }
@@ -61,7 +61,7 @@ fn explain_script(alloc: Global, planned: &Planned<'_>) -> Result<Handed, OutOfM
     reworded(alloc, planned, script, &report, Form::Lines)
 }
 
-/// Explains a plan, and returns the text, with how the call ends.
+/// Explains a plan, and returns the text, and how the C call ends.
 fn why_plan(alloc: Global, plan: &[u8]) -> Result<Handed, OutOfMemory>
     ensures { IfOk result (λ h. IsPlanReported h.ending) }
 {
@@ -71,7 +71,8 @@ fn why_plan(alloc: Global, plan: &[u8]) -> Result<Handed, OutOfMemory>
     }
 }
 
-/// Returns the state after a line of a plan, or at its end for line 0, with how the call ends.
+/// Returns the state after a line of a plan, or at the plan's end if `line` is 0, and how the C
+/// call ends.
 #[tactic(auto, using(crate::proofs::Planned::script_reported))]
 fn show_script(alloc: Global, planned: &Planned<'_>, line: u64) -> Result<Handed, OutOfMemory>
     ensures { IfOk result (λ h. IsPlanReported h.ending) }
@@ -90,7 +91,8 @@ fn show_script(alloc: Global, planned: &Planned<'_>, line: u64) -> Result<Handed
     Ok(Handed { text, ending })
 }
 
-/// Returns the state after a line of a plan, or at its end for line 0, with how the call ends.
+/// Returns the state after a line of a plan, or at the plan's end if `line` is 0, and how the C
+/// call ends.
 fn state_plan(alloc: Global, plan: &[u8], line: u64) -> Result<Handed, OutOfMemory>
     ensures { IfOk result (λ h. IsPlanReported h.ending) }
 {
@@ -101,7 +103,7 @@ fn state_plan(alloc: Global, plan: &[u8], line: u64) -> Result<Handed, OutOfMemo
 }
 
 /// Draws the script of a plan with the texts and the lines of the plan's steps, and returns the
-/// picture, with how the call ends.
+/// picture, and how the C call ends.
 #[tactic(auto, using(crate::proofs::Planned::script_reported))]
 fn draw_script(alloc: Global, planned: &Planned<'_>) -> Result<Handed, OutOfMemory>
     ensures { IfOk result (λ h. IsPlanReported h.ending) }
@@ -121,7 +123,7 @@ fn draw_script(alloc: Global, planned: &Planned<'_>) -> Result<Handed, OutOfMemo
     Ok(Handed { text, ending })
 }
 
-/// Draws a plan, and returns the picture as SVG, with how the call ends.
+/// Draws a plan, and returns the picture as SVG, and how the C call ends.
 fn draw_plan(alloc: Global, plan: &[u8]) -> Result<Handed, OutOfMemory>
     ensures { IfOk result (λ h. IsPlanReported h.ending) }
 {

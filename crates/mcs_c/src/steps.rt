@@ -47,7 +47,7 @@ fn spell(alloc: Global, entry: &McsEntry) -> Result<Result<Vec<u8>, EntryFault>,
     Ok(Ok(text))
 }
 
-/// Returns the line of the step that an entry encodes, with how the call ends.
+/// Returns the line of the step that an entry encodes, and how the C call ends.
 #[tactic(auto, using(crate::proofs::Stepped::spelled, crate::proofs::Stepped::unspelled))]
 fn spelled(alloc: Global, entry: &McsEntry) -> Result<Handed, OutOfMemory>
     ensures { IfOk result (λ h. IsSpelled (step_said entry.now) h) }

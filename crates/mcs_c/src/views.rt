@@ -20,7 +20,7 @@ fn hand(text: Vec<u8>, answer: Result<bool, LabFault>) -> Result<Handed, OutOfMe
     Ok(Handed { text, ending })
 }
 
-/// Explains a script, and returns the text, with how the call ends.
+/// Explains a script, and returns the text, and how the C call ends.
 pub(crate) fn why_text(alloc: Global, script: &[u8]) -> Result<Handed, OutOfMemory>
     ensures { IfOk result (λ h. IsReported h.ending) }
 {
@@ -49,7 +49,7 @@ pub(crate) fn state_text(
     hand(text, answer)
 }
 
-/// Draws what is asked for of a script, and returns the picture, with how the call ends.
+/// Draws what is asked for of a script, and returns the picture, and how the C call ends.
 pub(crate) fn draw_text(
     alloc: Global,
     script: &[u8],

@@ -438,8 +438,9 @@ impl<'a, P: Progress> Findings<'a, P> {
         }
     }
 
-    /// Returns the result of the question with a number, counted from 0, and where it is seen.
-    /// `line` is a buffer for the text of an answer. `OutOfMemory` if an allocation fails.
+    /// Returns the question at index `number`, its result, and where it failed or the wanted event
+    /// was seen. `line` is a buffer for the text of an answer. `OutOfMemory` if an allocation
+    /// fails.
     pub fn judged(&self, line: &mut Line, number: usize) -> Result<Judged<'a>, LabFault>
         requires { number < length self.now.script.now.asked.items }
         ensures held { IfOk result (λ j. (q : AskedLine)

@@ -18,7 +18,7 @@ use mcs_trace::Line;
 use std::alloc::Global;
 use std::io::{Read, Write};
 
-/// What is reported of runs: what is kept of them, and what they show of each question.
+/// The report on random runs: what was kept of them, and the result of each question.
 struct Report<'a> {
     script: &'a UserScript,
     sample: Sample<'a>,

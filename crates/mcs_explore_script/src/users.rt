@@ -148,8 +148,8 @@ fn change(users: &mut Users, asked: &Asked)
     }
 }
 
-/// Makes lists of users repeat, and all users follow schedules, if lines say so. `AgainTwice` if a
-/// list repeats already.
+/// Makes the lists of users repeat, and sets the schedule of all users, if lines ask for it.
+/// `AgainTwice` if a list repeats already.
 fn change_all(alloc: Global, users: &mut Users, asked: &[AskedLine]) -> Result<(), ExploreFault>
     ensures { OnOk result (users.new ≡ all_changed users.old asked.now) }
 {

@@ -23,7 +23,7 @@ impl Model for Latest {
     ghost view = { λ n. map (λ e. (e.0, e.1.items)) n.names.entries };
 }
 
-/// Returns a number for a kind, below 8.
+/// Returns the number of a kind, below 8 and different for each kind.
 fn kind_number(kind: Kind) -> u64
     ensures is { result ≡ kind_number kind }
     ensures few { result ≤ 7 }

@@ -8,7 +8,8 @@ use mcs_kernel::EnterFault;
 use mcs_text::Words;
 use mcs_types::{Kind, ObjId, Queue};
 
-/// What a question asks about, by its first words. The expected answer is its whole text.
+/// What a question asks about, as its first words say. The question holds if its whole text equals
+/// the text of the actual answer.
 #[derive(Clone, Copy)]
 pub enum Question {
     /// `t1 waits e1.send`, `t1 owed r1`, `t1 running`, `restart`, `inactive`, `closed`.

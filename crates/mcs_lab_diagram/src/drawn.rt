@@ -221,9 +221,9 @@ impl Drawing {
         Ok(())
     }
 
-    /// Draws a step, whose line in the script is `text`; a skipped one leaves the book as it is,
-    /// and is noted. `BookFull` if the book is full for it, and `OutOfMemory` if an allocation
-    /// fails; then the drawing cannot be used any more.
+    /// Draws a step, whose line in the script is `text`; notes a skipped step, which leaves the
+    /// book unchanged. `BookFull` if the book has no room for the step. `OutOfMemory` if an
+    /// allocation fails. After a fault the drawing cannot be used any more.
     #[tactic(auto, using(crate::proofs::DrawnLaws::drawn_same))]
     pub fn enter(&mut self, alloc: Global, step: &Step, text: &str) -> Result<(), DrawFault>
         requires drawn { AreDrawn self.old.strokes self.old.looks.items self.old.picks.items

@@ -63,7 +63,7 @@ impl<'a> NamesMember<'a> {
         }
     }
 
-    /// Appends the end of the member if it was begun. Returns whether there is a member.
+    /// Closes the member `names` if it was begun, and returns whether it was.
     pub fn end(&self, page: &mut TextBuffer) -> bool {
         if self.is_begun {
             page.put(b"}");

@@ -129,7 +129,8 @@ impl Need {
             || !self.named.is_empty() && self.named.is_within(theirs)
     }
 
-    /// Returns whether a thread with such a space may unblock it at once.
+    /// Returns whether a thread with the CNodes `space` in its capability space may let the blocked
+    /// thread continue, not only retry.
     pub fn is_met_by(self, space: CNodes) -> bool {
         space.meets(self.by)
     }

@@ -68,7 +68,7 @@ impl<'a> Tables<'a> {
         }
     }
 
-    /// Puts a thread.
+    /// Appends a line on a thread: its priority, status, context, bound notification and mail.
     fn put_thread(&self, page: &mut TextBuffer, thread: ObjId) {
         page.put(b"  ");
         page.object(self.names, thread);

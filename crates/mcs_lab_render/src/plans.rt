@@ -226,7 +226,7 @@ pub struct Plan {
 }
 
 impl Plan {
-    /// Returns a page with these threads, of the lines after one.
+    /// Returns an empty page for these threads and the lines after line `before`.
     pub fn new(alloc: Global, threads: Vec<ObjId>, before: usize) -> Plan {
         Plan {
             rows: Vec::new(alloc),

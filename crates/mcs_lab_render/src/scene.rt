@@ -42,8 +42,8 @@ fn is_done<N: Naming>(drawing: &Drawing, names: &N, thread: ObjId, line: usize) 
     name == STARTER && look.status == Some(Status::Inactive)
 }
 
-/// Returns the threads that have lanes by default: all that have something left to do after this
-/// line.
+/// Returns the threads that have lanes by default: all but the thread `starter`, if it is inactive
+/// after this line.
 fn busy_threads<N: Naming>(
     alloc: Global,
     drawing: &Drawing,

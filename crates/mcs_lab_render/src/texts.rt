@@ -49,7 +49,7 @@ fn put_part(to: &mut TextBuffer, text: &[u8], first: usize, end: usize) {
     }
 }
 
-/// Appends a text on a page of XML.
+/// Appends a text, escaped for XML.
 pub fn put_escaped(to: &mut TextBuffer, text: &str) {
     let text = text.as_bytes();
     let mut first = 0;

@@ -74,7 +74,7 @@ fn without_values<'a>(alloc: Global, words: &[&'a str]) -> Result<Vec<&'a str>, 
     Ok(plain)
 }
 
-/// Returns the word of an entry at this distance from its end, if it is a value.
+/// Returns the `left`-th word of an entry, counted from its end, if that word is a value (`$..`).
 fn value_at<'a>(words: &[&'a str], left: usize) -> Option<&'a str> {
     let word = *words.get(words.len().checked_sub(left)?)?;
     if is_value(word.as_bytes()) {

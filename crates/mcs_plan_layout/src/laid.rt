@@ -229,7 +229,8 @@ impl PlanLayout {
         }
     }
 
-    /// The CNode that a slot holds a capability to, and its space.
+    /// Returns the CNode to which a named slot of `space` holds a capability, and the space of that
+    /// CNode.
     fn held_by(&self, space: &Space, name: &str) -> Option<(ObjId, &Space)>
         ensures { option_map (λ h. h.0) result
             ≡ cnode_held (said self.now.plan).spaces (said_space space.now) name.now }

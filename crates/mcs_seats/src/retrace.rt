@@ -216,7 +216,7 @@ impl<'a> Follower<'a> {
         }
     }
 
-    /// Returns how far the calls agree after the next line.
+    /// Returns how far the calls agree with the book up to and including its next line.
     fn follow_line(&self, count: usize, line: &LineCopy) -> Progress
         requires right { AreRightTo self.now count }
         requires later { IsLater self.now.at (drop count self.now.calls) }

@@ -38,7 +38,8 @@ impl Model for ReplayRun {
 }
 
 impl ReplayRun {
-    /// Returns a replay of no bytes. It allocates room for one line.
+    /// Returns a replay that has taken no bytes yet, with room for one line. `OutOfMemory` if an
+    /// allocation fails.
     pub fn new(alloc: Global) -> Result<ReplayRun, OutOfMemory>
         ensures { IfOk result (λ r. r ≡ at_line no_line) }
     {
@@ -190,9 +191,10 @@ impl ReplayRun {
         Ok(())
     }
 
-    /// Takes a piece of the input, which may end within a line. Fault Script comes at the latest
-    /// with the newline of its line, its 4,097th byte, or the first byte of line 2,000,001. After a
-    /// fault the book is that of the steps before it, and each later call returns the same fault.
+    /// Takes a piece of the input, which may end within a line. A fault `Script` is returned at the
+    /// latest when the newline or the 4,097th byte of its line is taken, or the first byte of line
+    /// 2,000,001. After a fault the book is that of the steps before it, and each later call
+    /// returns the same fault.
     pub fn feed(&mut self, alloc: Global, piece: &[u8]) -> Result<(), SimFault>
         ensures takes { Takes self.old piece.now self.new }
         ensures answer { result ≡ answer_of self.new.course.fault }

@@ -162,9 +162,10 @@ impl TracedRun {
     }
 
     /// Takes a piece of a script, or its end if the piece is empty, and writes what it adds to the
-    /// trace: the boot once that has ended, and each line of the book. So a caller has the trace of
-    /// all lines so far before it asks for more. Fault `Write` if a call of the writer failed; else
-    /// the fault of the script, after which the trace of the steps before it is written.
+    /// trace: the boot once that has ended, and each line of the book. So the trace of all lines so
+    /// far is written before the caller reads the next piece. Fault `Write` if a call of the writer
+    /// failed; else the fault of the script; even then the trace of the steps before that fault is
+    /// written.
     pub fn take_piece<W: Write>(
         &mut self,
         alloc: Global,

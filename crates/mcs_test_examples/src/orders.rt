@@ -104,8 +104,8 @@ const ASKED: &[(&str, &str)] = &[
 /// `tests/random-orders.py --data` and `--programs --data`.
 const RANDOM: &[&str] = &["explore/random.txt", "programs/random.txt"];
 
-/// The saved scripts: how many there are, of how many the kernel accepts each step, in how many
-/// each answer is the one after its step, and how many steps they have in all.
+/// Counts of the saved scripts: all; those whose every step the kernel accepts; those in which each
+/// expected answer (the line after its step) holds; and the steps of all.
 #[derive(Drop)]
 struct Replayed {
     count: u64,

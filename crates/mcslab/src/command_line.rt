@@ -163,7 +163,7 @@ fn at<'a>(alloc: Global) -> Arg<'a> {
     )
 }
 
-/// The option for what is stuck alone.
+/// Returns the option to report only the stuck threads.
 fn stuck<'a>(alloc: Global) -> Arg<'a> {
     Arg::new(alloc, "stuck")
         .long("stuck")

@@ -114,7 +114,7 @@ fn scripts<'a>(alloc: Global) -> Arg<'a> {
         .help("Writes the scripts of steps that show what is reported into this folder")
 }
 
-/// Returns the option for a script of each answer.
+/// Returns the option that asks for a script of each answer.
 fn answers<'a>(alloc: Global) -> Arg<'a> {
     Arg::new(alloc, "answers")
         .long("answers")

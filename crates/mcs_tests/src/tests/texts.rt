@@ -179,7 +179,7 @@ pub fn numbers(text: &str) -> [u32; 12] {
     all
 }
 
-/// Adds this many pieces to a text.
+/// Appends `count` copies of a piece to a text.
 pub fn add_pieces(text: &mut Vec<u8>, piece: &str, count: u32) -> Result<(), Fail> {
     for _ in 0..count {
         text.extend_from_slice(piece.as_bytes())?;

@@ -85,8 +85,8 @@ fn script_of(alloc: Global, piece: u32, steps: u32) -> Result<Vec<u8>, Fail> {
     Ok(script)
 }
 
-/// Returns before how many pieces of this many bytes all was written while a script is replayed;
-/// None if it has a fault.
+/// Replays a script that is read in pieces of this many bytes. Returns how many pieces were read
+/// only after all results due by then were written; None if the script has a fault.
 fn answered(alloc: Global, script: &[u8], piece: usize) -> Option<usize> {
     let written = Cell::new(0);
     let answered = Cell::new(0);
