@@ -89,6 +89,9 @@ wanted "a search that has no end" 3 "$(status_of --states 1000000000 --seconds 2
 took=$(($(date +%s) - began))
 holds "it took $took seconds" "[ $took -ge 2 ] && [ $took -le 6 ]"
 holds "it does not say that the clock stopped it" "grep -q '^stopped by the clock at ' $folder/out"
+wanted "a search in 40 MB" 3 "$(status_of --states 1000000000 --seconds 60 --memory 40 "$folder/endless.mcs")"
+holds "it does not say that the limit stopped it" "grep -q '^stopped by the memory limit at ' $folder/out"
+wanted "a limit that a search does not reach" 1 "$(status_of --memory 1000 "$small")"
 
 [ "$failed" -eq 0 ] && echo "keeping: all as wanted"
 exit "$failed"

@@ -95,6 +95,7 @@ fn put_stop(page: &mut TextBuffer, stop: Option<Stop>) {
     match stop {
         Some(Stop::Clock) => page.put(b"by the clock "),
         Some(Stop::Memory) => page.put(b"for lack of memory "),
+        Some(Stop::MemoryLimit) => page.put(b"by the memory limit "),
         None => {}
     }
 }

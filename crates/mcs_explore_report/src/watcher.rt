@@ -23,6 +23,8 @@ pub enum Stop {
     Clock,
     /// The memory that is left suffices for the report alone.
     Memory,
+    /// It uses as much memory as it may.
+    MemoryLimit,
 }
 
 /// Receives the progress of a search.

@@ -10,8 +10,10 @@ use clap::{Arg, ArgAction, ArgMatches, Command as Words, Error, value_parser};
 use mcs_explore_questions::ExploreFault;
 use mcs_explore_report::{Explored, Output, Progress, Stop, Wanted, explore_and_tell};
 use mcs_lab_check::Outcome;
+use mcs_lab_forms::number_of;
 use mcs_sim::Source;
 use std::alloc::{AllocError, Global};
+use std::fs;
 use std::io::{self, IsTerminal, Read, Write};
 use std::time::Instant;
 
@@ -27,6 +29,16 @@ const RESERVE: usize = 64 << 20;
 
 const RESERVE_STATE: usize = 512;
 
+/// The file in which the system says how many pages the program uses: its second number counts
+/// those in memory.
+const MEMORY_FILE: &str = "/proc/self/statm";
+
+/// How many bytes a page has.
+const PAGE: u64 = 4_096;
+
+/// How many bytes a megabyte has.
+const MEGABYTE: u64 = 1_000_000;
+
 /// How far to search, the form of the report, and where to save scripts.
 #[derive(Clone, Copy)]
 pub struct Sought<'a> {
@@ -37,6 +49,8 @@ pub struct Sought<'a> {
     pub is_forced: bool,
     /// After how many seconds the search stops, if that is asked for.
     pub seconds: Option<u64>,
+    /// At how many megabytes of memory the search stops, if that is asked for.
+    pub memory: Option<u64>,
 }
 
 /// What a script may ask of all orders.
@@ -98,6 +112,15 @@ fn seconds<'a>(alloc: Global) -> Arg<'a> {
     )
 }
 
+/// Returns the option for the memory.
+fn memory<'a>(alloc: Global) -> Arg<'a> {
+    Arg::new(alloc, "memory")
+        .long("memory")
+        .value_name("MB")
+        .help("Stops when the program uses MB megabytes of memory, and reports what was found")
+        .value_parser(value_parser!(u64))
+}
+
 /// Returns the option for scripts that overwrite files.
 fn force<'a>(alloc: Global) -> Arg<'a> {
     Arg::new(alloc, "force")
@@ -156,6 +179,7 @@ pub fn command<'a>(alloc: Global, file: Arg<'a>) -> Result<Words<'a>, Error> {
     let words = with(Ok(words(alloc)), states(alloc));
     let words = with(words, depth(alloc));
     let words = with(words, seconds(alloc));
+    let words = with(words, memory(alloc));
     let words = with(words, scripts(alloc));
     let words = with(words, force(alloc));
     let words = with(words, answers(alloc));
@@ -182,6 +206,7 @@ pub fn asked<'a>(found: &ArgMatches<'a>) -> Sought<'a> {
         scripts: found.get_str("scripts"),
         is_forced: found.get_flag("force"),
         seconds: found.get_one("seconds"),
+        memory: found.get_one("memory"),
     }
 }
 
@@ -197,8 +222,8 @@ fn status_of(explored: Explored) -> u8
     }
 }
 
-/// Reports the progress of a search once a second, and stops it after a time, or when memory
-/// suffices for the report alone.
+/// Reports the progress of a search once a second, and stops it after a time, at a limit of memory,
+/// or when the memory that is left suffices for the report alone.
 #[derive(Drop)]
 struct Meter<'a> {
     rt: &'a HostRuntime,
@@ -210,6 +235,10 @@ struct Meter<'a> {
     most: Option<u64>,
     /// Whether the reserve of memory was refused.
     is_short: bool,
+    /// How many megabytes the program may use, if there is a limit.
+    megabytes: Option<u64>,
+    /// Whether the program uses as much.
+    is_full: bool,
 }
 
 /// Returns whether there is memory for a report on so many states.
@@ -217,6 +246,15 @@ fn has_reserve(alloc: Global, states: usize) -> bool {
     let bytes = states.saturating_mul(RESERVE_STATE).saturating_add(RESERVE);
     let reserve: Result<Vec<u8>, AllocError> = Vec::with_capacity(alloc, bytes);
     reserve.is_ok()
+}
+
+/// Returns how many bytes of memory the program uses; None if the system does not say.
+fn used_memory(rt: &HostRuntime) -> Option<u64> {
+    let mut file = fs::open(rt, MEMORY_FILE).ok()?;
+    let mut bytes = [0; 128];
+    let count = file.read(&mut bytes).ok()?;
+    let pages = bytes[..count].split(|byte| *byte == b' ').nth(1)?;
+    number_of(pages)?.checked_mul(PAGE)
 }
 
 /// Returns a number with a comma before each three digits.
@@ -236,8 +274,9 @@ fn grouped(alloc: Global, number: usize) -> Result<String, AllocError> {
 
 impl<'a> Meter<'a> {
     /// Returns a meter that reports from now on, if the standard error is a terminal, and stops a
-    /// search after `most` seconds, or after one state if there is no clock.
-    fn new(rt: &'a HostRuntime, most: Option<u64>) -> Meter<'a> {
+    /// search after `most` seconds, or at this many megabytes of memory: after one state if there
+    /// is no clock, or the system does not say how much memory is used.
+    fn new(rt: &'a HostRuntime, most: Option<u64>, megabytes: Option<u64>) -> Meter<'a> {
         let is_seen = rt.stderr().is_terminal();
         let start = if is_seen || most.is_some() {
             Instant::now(rt).ok()
@@ -251,6 +290,19 @@ impl<'a> Meter<'a> {
             seconds: 0,
             most,
             is_short: false,
+            megabytes,
+            is_full: false,
+        }
+    }
+
+    /// Returns whether the program uses as much memory as it may.
+    fn is_at_limit(&self) -> bool {
+        let Some(most) = self.megabytes else {
+            return false;
+        };
+        match used_memory(self.rt) {
+            Some(used) => most <= used / MEGABYTE,
+            None => true,
         }
     }
 
@@ -278,6 +330,7 @@ impl Progress for Meter<'_> {
             return;
         }
         self.is_short = !has_reserve(self.rt.alloc(), before);
+        self.is_full = self.is_at_limit();
         if let Some(seconds) = self.second()
             && self.is_seen
         {
@@ -288,6 +341,9 @@ impl Progress for Meter<'_> {
     fn stop(&self) -> Option<Stop> {
         if self.is_short {
             return Some(Stop::Memory);
+        }
+        if self.is_full {
+            return Some(Stop::MemoryLimit);
         }
         let is_over = match (self.most, &self.start) {
             (None, _) => false,
@@ -340,7 +396,7 @@ pub fn explore<R: Read, W: Write + Drop>(
         sought.wanted,
         sought.output,
         &mut folder,
-        Meter::new(rt, sought.seconds),
+        Meter::new(rt, sought.seconds, sought.memory),
     )?;
     Ok(status_of(explored))
 }
