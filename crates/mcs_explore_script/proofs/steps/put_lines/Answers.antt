@@ -1,6 +1,6 @@
 use Rattle.std.proofs.Common.{reverse, sym, ◌∙◌, arith}
 use Rattle.mcs_trace.proofs.Outputs.{Puts-nil, Puts-text, Puts-then}
-use Rattle.mcs_sim.proofs.GoingBooks.{lines-next}
+use Rattle.mcs_sim.proofs.FeedBooks.{lines-next}
 use Rattle.mcs_sim.proofs.TraceLaws.{line-past}
 use Rattle.mcs_explore_script.proofs.StepLines.{step-next}
 use Rattle.mcs_explore_script.proofs.steps.put_lines.Goals as goal
