@@ -4,9 +4,7 @@
     python3 tests/graph.py MCSLAB MCSSIM [RUNS]     so many runs of all scripts together (100)
 
 The first line of a graph counts its states and turns as `explore` does; each state but the first has an edge to it; a state
-without edges is one where `explore` sees an end. A label has the result of its own thread once. Each run of `mcssim run` is
-a path from state 0 by labels. `--dot` has the same edges, colours the ends, red where `explore` sees a deadlock, and Graphviz
-draws it, where it is there. A budget leaves status 3.
+without edges is one where `explore` sees an end. Each run of `mcssim run` is a path from state 0 by labels. `--dot` has the same edges, and Graphviz draws them, where it is there. A budget leaves status 3.
 """
 import glob
 import re
@@ -67,20 +65,11 @@ def follow(edges, trace, path):
 def compare_dot(path, edges):
     """Checks that both forms have the same edges, and that Graphviz reads them."""
     lines = call(lab, "graph", "--dot", "--states", str(LARGEST), path)
-    drawn, ends = [], {}
+    drawn = []
     for line in lines[1:-1]:
-        found = re.fullmatch(r'  (\d+) \[style=filled, fillcolor=(palegreen|lightcoral|khaki)\];', line)
-        if found:
-            ends[int(found[1])] = found[2]
-            continue
-        assert not ends, f"{path}: an edge after an end"
         found = re.fullmatch(r'  (\d+) -> (\d+) \[label="([^"]*)"\];', line)
         drawn.append((int(found[1]), found[3], int(found[2])))
     assert drawn == [(place, label, to) for place, out in enumerate(edges) for label, to in out], path
-    assert list(ends) == [place for place, out in enumerate(edges) if not out], f"{path}: ends"
-    text = "\n".join(call(lab, "explore", "--states", str(LARGEST), path, status=None))
-    for colour, words in (("palegreen", ", all done"), ("lightcoral", ", deadlock"), ("khaki", ", entries left")):
-        assert (colour in ends.values()) == (words in text), f"{path}: {words}"
     if shutil.which("dot") and len(edges) <= 100:
         done = subprocess.run(["dot", "-Tsvg"], input="\n".join(lines), capture_output=True, text=True, check=True)
         assert done.stdout.count('class="edge"') == len(drawn), path
@@ -93,9 +82,6 @@ for path in sorted(glob.glob("examples/explore/*.mcs") + glob.glob("examples/pro
         continue
     states, turns, ends, _ = seen
     edges = read_aut(call(lab, "graph", path))
-    for label in (label for out in edges for label, _ in out):
-        own, *others = label.split("; ")
-        assert all(other.split()[0] != own.split()[1] for other in others), f"{path}: {label}"
     assert (len(edges), sum(map(len, edges))) == (states, turns), f"{path}: {len(edges)} states"
     reached = {to for out in edges for _, to in out}
     assert reached | {0} == set(range(states)), f"{path}: states without an edge"

@@ -1,18 +1,13 @@
 //! The text of a graph.
 ghost use Rattle.std.specs.Prelude.{◌≡◌, ◌++◌, ◌∷◌, [], IfOk, OnOk, length};
-ghost use Rattle.mcs_turns.specs.Turns.{RunState, beginning};
-ghost use Rattle.mcs_explore_search.specs.Paths.{Path};
 ghost use Rattle.mcs_explore_search.specs.Search.{path_of};
-ghost use Rattle.mcs_explore_orders.specs.Trails.{Leads};
-ghost use Rattle.mcs_explore_graph.specs.Graphs.{AreTexts, HasReadGraph, IsEndingAt, IsGraphOf, IsGraphText, IsLabel, IsLine, IsLineAt, IsStateLine, Wrote};
+ghost use Rattle.mcs_explore_graph.specs.Graphs.{AreLines, HasReadGraph, IsGraphOf, IsGraphText, IsLabel, IsLine, Wrote};
 
 use crate::labels::label_of;
-use crate::lines::{Between, Form, end_of, head_of, line_of, state_line};
-use mcs_explore_orders::{
-    Budget, Edge, Nobody, Orders, OrdersFault, PackedTurn, Turn, Walk, explore, retrace,
-};
+use crate::lines::{Between, Form, end_of, head_of, line_of};
+use mcs_explore_orders::{Budget, Edge, Nobody, Orders, PackedTurn, Turn, explore, retrace};
 use mcs_explore_questions::ExploreFault;
-use mcs_explore_report::{Ending, Wanted, are_in_range, ending_of, mode_of, standings};
+use mcs_explore_report::{Wanted, are_in_range, mode_of};
 use mcs_explore_script::{UserScript, fault_of, read_script};
 use mcs_explore_walk::newest;
 use mcs_lab_check::LabFault;
@@ -82,9 +77,8 @@ fn write_lines<W: Write>(
     form: Form,
     to: &mut W,
 ) -> Result<(), LabFault>
-    ensures { OnOk result (Wrote W.contents to.old to.new (AreTexts
-        (IsLineAt form script.now.users script.now.boot orders.now.search.map.entries
-        orders.now.search.edges.items)
+    ensures { OnOk result (Wrote W.contents to.old to.new (AreLines form script.now.users
+        script.now.boot orders.now.search.map.entries orders.now.search.edges.items
         (length orders.now.search.edges.items))) }
 {
     let mut buffer = Box::new(alloc, Buffer::new())?;
@@ -96,84 +90,7 @@ fn write_lines<W: Write>(
     Ok(())
 }
 
-/// Returns how runs end in a state; None if a turn is possible there.
-fn ending_at(
-    alloc: Global,
-    script: &UserScript,
-    walk: &Walk<PlainLines>,
-) -> Result<Option<Ending>, OrdersFault>
-    ensures { IfOk result (λ o. IsEndingAt script.now.users script.now.asked.items walk.now o) }
-{
-    let picks = walk.picks(alloc, &script.users)?;
-    let turns = walk.turns(alloc, &script.users, &picks)?;
-    if !walk.is_over(&script.users, &picks, &turns) {
-        return Ok(None);
-    }
-    let standing = standings(alloc, &script.users, walk)?;
-    Ok(Some(ending_of(&script.asked, &standing)))
-}
-
-/// Returns how runs end in the state at an index; None if a turn is possible there.
-fn ending_of_state(
-    alloc: Global,
-    script: &UserScript,
-    orders: &Orders<'_, Nobody>,
-    place: usize,
-) -> Result<Option<Ending>, OrdersFault>
-    ensures { IfOk result (λ o. (g : RunState)
-        → Path (Leads script.now.users) (beginning script.now.users script.now.boot)
-        (path_of orders.now.search.map.entries place) g
-        → IsEndingAt script.now.users script.now.asked.items g o) }
-{
-    let turns = orders.path(place)?;
-    let walk = retrace(alloc, &script.boot, &script.users, &turns)?;
-    ending_at(alloc, script, &walk)
-}
-
-/// Returns the line of the state at an index, if the form has one for it.
-fn line_of_state(
-    alloc: Global,
-    script: &UserScript,
-    orders: &Orders<'_, Nobody>,
-    buffer: &mut Buffer,
-    form: Form,
-    place: usize,
-) -> Result<Vec<u8>, LabFault>
-    ensures { IfOk result (λ text. IsStateLine form script.now.users script.now.boot
-        script.now.asked.items orders.now.search.map.entries place text.items) }
-{
-    match form {
-        Form::Aut => Ok(Vec::new(alloc)),
-        Form::Dot => match ending_of_state(alloc, script, orders, place) {
-            Ok(ending) => state_line(alloc, buffer, place, ending),
-            Err(fault) => Err(fault_of(fault)),
-        },
-    }
-}
-
-/// Writes the lines of the states that were expanded.
-fn write_states<W: Write>(
-    alloc: Global,
-    script: &UserScript,
-    orders: &Orders<'_, Nobody>,
-    form: Form,
-    to: &mut W,
-) -> Result<(), LabFault>
-    ensures { OnOk result (Wrote W.contents to.old to.new (AreTexts
-        (IsStateLine form script.now.users script.now.boot script.now.asked.items
-        orders.now.search.map.entries)
-        orders.now.search.done)) }
-{
-    let mut buffer = Box::new(alloc, Buffer::new())?;
-    for place in 0..orders.done() {
-        let line = line_of_state(alloc, script, orders, &mut buffer, form, place)?;
-        to.write_all(&line)?;
-    }
-    Ok(())
-}
-
-/// Writes the graph of a search: its first line, its edges by the states from which they lead, and
-/// its ends if the form shows them.
+/// Writes the graph of a search: its first line, and its edges by the states from which they lead.
 fn write_orders<W: Write>(
     alloc: Global,
     script: &UserScript,
@@ -181,15 +98,14 @@ fn write_orders<W: Write>(
     form: Form,
     to: &mut W,
 ) -> Result<(), LabFault>
-    ensures { OnOk result (Wrote W.contents to.old to.new (IsGraphText form script.now
-        orders.now.search.map.entries orders.now.search.done orders.now.search.edges.items)) }
+    ensures { OnOk result (Wrote W.contents to.old to.new (IsGraphText form script.now.users
+        script.now.boot orders.now.search.map.entries orders.now.search.edges.items)) }
 {
     let mut buffer = Box::new(alloc, Buffer::new())?;
     let (states, turns) = (orders.states(), orders.edges().len());
     let head = head_of(alloc, &mut buffer, form, states, turns)?;
     to.write_all(&head)?;
     write_lines(alloc, script, orders, form, to)?;
-    write_states(alloc, script, orders, form, to)?;
     to.write_all(end_of(form))?;
     Ok(())
 }

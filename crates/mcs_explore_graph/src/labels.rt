@@ -1,7 +1,7 @@
 //! The labels of turns.
 ghost use Rattle.std.specs.Prelude.{◌≡◌, ◌++◌, IfOk, OnOk};
 ghost use Rattle.std.specs.List.{flat_map};
-ghost use Rattle.mcs_explore_graph.specs.Graphs.{answered_text, but_last, label_text, other_text};
+ghost use Rattle.mcs_explore_graph.specs.Graphs.{answered_text, but_last, label_text, reached_text};
 
 use mcs_book::Line;
 use mcs_explore_report::{put, reached_by, text_of};
@@ -10,7 +10,6 @@ use mcs_lab_check::LabFault;
 use mcs_text::Token;
 use mcs_trace::{Line as Buffer, spell, spell_step};
 use mcs_turns::Reached;
-use mcs_types::ObjId;
 use std::alloc::Global;
 
 /// Returns a text without its last byte.
@@ -20,19 +19,15 @@ fn but_last(text: &[u8]) -> &[u8]
     &text[..text.len().saturating_sub(1)]
 }
 
-/// Appends what reached a thread, unless it is the one that entered; `buffer` is for its words.
+/// Appends what reached a waiting thread; `buffer` is for its words.
 fn put_reached(
     alloc: Global,
     text: &mut Vec<u8>,
     buffer: &mut Buffer,
-    own: ObjId,
     reached: &Reached,
 ) -> Result<(), LabFault>
-    ensures { OnOk result (text.new.items ≡ text.old.items ++ other_text own reached.now) }
+    ensures { OnOk result (text.new.items ≡ text.old.items ++ reached_text reached.now) }
 {
-    if reached.thread.is_same(own) {
-        return Ok(());
-    }
     put(text, b"; ")?;
     spell(buffer, &Token::Name(reached.thread));
     put(text, buffer.text())?;
@@ -40,18 +35,17 @@ fn put_reached(
     put(text, &text_of(alloc, buffer, &reached.answer)?)
 }
 
-/// Appends what reached other threads than the one that entered.
+/// Appends what reached waiting threads.
 fn put_all_reached(
     alloc: Global,
     text: &mut Vec<u8>,
     buffer: &mut Buffer,
-    own: ObjId,
     all: &[Reached],
 ) -> Result<(), LabFault>
-    ensures { OnOk result (text.new.items ≡ text.old.items ++ flat_map (other_text own) all.now) }
+    ensures { OnOk result (text.new.items ≡ text.old.items ++ flat_map reached_text all.now) }
 {
     for index in 0..all.len() {
-        put_reached(alloc, text, buffer, own, &all[index])?;
+        put_reached(alloc, text, buffer, &all[index])?;
     }
     Ok(())
 }
@@ -74,18 +68,7 @@ fn put_step(
     put(text, &text_of(alloc, buffer, &answer)?)
 }
 
-/// Returns the thread that entered a line.
-fn thread_of(line: &Line<'_>) -> ObjId
-    ensures { result ≡ line.now.step.thread }
-{
-    let step = line.kept_step();
-    ObjId {
-        kind: step.kind,
-        serial: step.serial,
-    }
-}
-
-/// Returns the label of a turn by its line: the step, its answer, and what reached other threads.
+/// Returns the label of a turn by its line: the step, its answer, and what reached waiting threads.
 /// `OutOfMemory` if an allocation fails.
 pub fn label_of(alloc: Global, buffer: &mut Buffer, line: &Line<'_>) -> Result<Vec<u8>, LabFault>
     ensures { IfOk result (λ text. text.items ≡ label_text line.now) }
@@ -96,6 +79,6 @@ pub fn label_of(alloc: Global, buffer: &mut Buffer, line: &Line<'_>) -> Result<V
         Ok(all) => all,
         Err(fault) => return Err(fault_of(fault)),
     };
-    put_all_reached(alloc, &mut text, buffer, thread_of(line), &all)?;
+    put_all_reached(alloc, &mut text, buffer, &all)?;
     Ok(text)
 }

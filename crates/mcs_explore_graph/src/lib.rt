@@ -2,7 +2,7 @@
 //! for tools that read graphs (own).
 //!
 //! ```text
-//! a script ── graph ──> states, and edges with their turns
+//! a script ── exploring ──> states, and edges with their turns
 //!     ── labels ──> the text of each turn: its step, its answer, and what it delivered
 //!     ── lines ──> a graph in Aldebaran's form, or for Graphviz
 //! ```

@@ -1,8 +1,8 @@
 //! The lines of a graph.
 ghost use Rattle.std.specs.Prelude.{◌≡◌, ◌++◌, IfOk, OnOk, decimal};
-ghost use Rattle.mcs_explore_graph.specs.Graphs.{aut_head, aut_line, colour, dot_line, end_text, head_text, line_text, state_line};
+ghost use Rattle.mcs_explore_graph.specs.Graphs.{aut_head, aut_line, dot_line, end_text, head_text, line_text};
 
-use mcs_explore_report::{Ending, put};
+use mcs_explore_report::put;
 use mcs_lab_check::LabFault;
 use mcs_text::Token;
 use mcs_trace::{Line as Buffer, spell};
@@ -102,38 +102,6 @@ pub fn line_of(
     match form {
         Form::Aut => put_aut_line(&mut text, buffer, between, label)?,
         Form::Dot => put_dot_line(&mut text, buffer, between, label)?,
-    }
-    Ok(text)
-}
-
-/// Returns the colour of an end for Graphviz.
-fn colour(ending: Ending) -> &'static [u8]
-    ensures { result.now ≡ colour ending }
-{
-    match ending {
-        Ending::AllDone => b"palegreen",
-        Ending::Deadlock => b"lightcoral",
-        Ending::EntriesLeft => b"khaki",
-    }
-}
-
-/// Returns the line of a state for Graphviz: nothing if it is no end; `buffer` is for its number.
-/// `OutOfMemory` if an allocation fails.
-pub fn state_line(
-    alloc: Global,
-    buffer: &mut Buffer,
-    place: usize,
-    ending: Option<Ending>,
-) -> Result<Vec<u8>, LabFault>
-    ensures { IfOk result (λ text. text.items ≡ state_line place ending) }
-{
-    let mut text = Vec::new(alloc);
-    if let Some(ending) = ending {
-        put(&mut text, b"  ")?;
-        put_number(&mut text, buffer, place)?;
-        put(&mut text, b" [style=filled, fillcolor=")?;
-        put(&mut text, colour(ending))?;
-        put(&mut text, b"];\n")?;
     }
     Ok(text)
 }

@@ -25,11 +25,10 @@ pub struct Graphed {
 
 /// What the graph says.
 const READS: &str = "\
-Each edge is a turn: its core, thread and entry, its answer, and what it delivered to other threads.
-The words are those of the script, for a plan those of the script that it becomes. States are merged
-as `mcslab explore` merges them. With --dot the search stops after 500 states if --states does not
-say another number, and states where no turn is possible have a colour: green if all users are done,
-red in a deadlock, yellow if entries are left that no thread can give.
+Each edge is a turn: its core, thread and entry, its answer, and what it delivered to threads that
+waited. The words are those of the script, for a plan those of the script that it becomes. States
+are merged as `mcslab explore` merges them. With --dot the search stops after 500 states if --states
+does not say another number.
 
   mcslab graph two.mcs > two.aut                  for CADP, LTSmin and mCRL2
   mcslab graph --dot two.mcs | dot -Tsvg > two.svg

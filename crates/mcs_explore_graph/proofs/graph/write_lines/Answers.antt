@@ -4,8 +4,7 @@ use Rattle.std.proofs.Common.{ap, refl, subst, sym, ◌∙◌}
 use Rattle.mcs_explore_search.specs.declared.search.Edge.{Edge}
 use Rattle.mcs_explore_walk.specs.declared.walk.Turn.{Turn}
 use Rattle.mcs_explore_walk.proofs.Turning.{or-at}
-use Rattle.mcs_explore_graph.specs.Graphs.{IsLineAt}
-use Rattle.mcs_explore_graph.proofs.Written.{line-at, texts-more, wrote-nothing}
+use Rattle.mcs_explore_graph.proofs.Written.{lines-more, wrote-nothing}
 use Rattle.mcs_explore_graph.proofs.graph.write_lines.Goals as goal
 
 pub loop-number-init : goal.loop-number-init
@@ -14,13 +13,10 @@ loop-number-init g c = wrote-nothing g.W.Write.contents c.args.to.now _ refl
 pub loop-number-preserved : goal.loop-number-preserved
 loop-number-preserved g c =
     let script = c.args.script.now in
-    let entries = c.args.orders.now.search.map.entries in
     let edges = c.args.orders.now.search.edges.items in
     let e = c.index-edges-number.result in
     let known = c.edges-edges.result.now in
     let n = c.loop-number.number in
-    let line = c.in_ok-line.line.items in
     let at : slice_get edges n ≡ Some e = ap (λ (es : List (Edge Turn)). slice_get es n) (sym c.edges-edges.ensures) ∙ or-at known n e c.loop-number-test.true ∙ ap (λ (x : Edge Turn). Some x) (sym c.index-edges-number.is) in
-    texts-more g.W.Write.contents c.args.to.now c.loop-number.to c.write_all.new.self (IsLineAt c.args.form script.users script.boot entries edges) n line
-    c.loop-number.invariant (line-at c.args.form script.users script.boot entries edges n e line at c.in_ok-line.ensures)
-    (subst (λ bs. Appends (g.W.Write.contents c.loop-number.to) (g.W.Write.contents c.write_all.new.self) bs) c.deref.ensures.value c.in_ok-write_all.ensures.bytes)
+    lines-more g.W.Write.contents c.args.to.now c.loop-number.to c.write_all.new.self c.args.form script.users script.boot c.args.orders.now.search.map.entries edges c.loop-number.number e c.in_ok-line.line.items
+    c.loop-number.invariant at c.in_ok-line.ensures (subst (λ bs. Appends (g.W.Write.contents c.loop-number.to) (g.W.Write.contents c.write_all.new.self) bs) c.deref.ensures.value c.in_ok-write_all.ensures.bytes)
