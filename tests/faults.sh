@@ -1,9 +1,9 @@
 #!/bin/sh
 # Compares the messages of `mcslab` about faults, and its statuses, with tests/faults/table.txt:
 # first those that crates/mcs_test_examples writes, whose stdout rt ci compares, and then those of
-# the program itself, which does each call of the table on the files of examples/faults. Run it after
-# rt ci, which leaves the program, or with another program: sh tests/faults.sh PROGRAM. With --stdout
-# it does only the first, for which nothing has to be built.
+# the program itself, which does each call of the table on the files of examples/faults. Run it
+# after rt ci, which leaves the program, or with another program: sh tests/faults.sh PROGRAM. With
+# --stdout it does only the first, for which nothing has to be built.
 set -eu
 cd "$(dirname "$0")/.."
 table=$PWD/tests/faults/table.txt
